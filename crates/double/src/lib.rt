@@ -1,0 +1,51 @@
+// Fused multiply-add for `f64`: a * b + c with the product exact and one rounding.
+//
+// A finite value is m * 2 ^ k units of its format's smallest value. The product of two is a number
+// of squares of that unit, and so is the third value: `quick` takes both whole where their
+// exponents are near, and `general` takes the rest, the smaller term cut to an odd number.
+mod general;
+mod long;
+mod quick;
+mod wide;
+
+ghost use mathlib.Core.Path.{_≡_};
+ghost use lib.Ieee.{binary64};
+ghost use Rattle.rounding.specs.Fma as Spec;
+
+const SIGN: u64 = 0x8000_0000_0000_0000;
+
+// A zero needs no whole numbers: without a factor the product is a zero exactly, and without a
+// third term one product is the one rounding.
+fn outside(a: f64, b: f64, c: f64) -> f64
+    ensures { λ r. ⌜ r ≡ Spec.fma binary64 a b c ⌝ }
+{
+    if a == 0.0 || b == 0.0 {
+        return bits::settled64(a * b + c);
+    }
+    if c == 0.0 {
+        return bits::settled64(a * b);
+    }
+    general::whole(a, b, c)
+}
+
+pub fn fma(a: f64, b: f64, c: f64) -> f64
+    ensures { λ r. ⌜ r ≡ Spec.fma binary64 a b c ⌝ }
+{
+    if a != a || b != b || c != c {
+        return 0.0 / 0.0;
+    }
+    let i = f64::to_bits(a);
+    let j = f64::to_bits(b);
+    let k = f64::to_bits(c);
+    let x = i % SIGN >> 52;
+    let y = j % SIGN >> 52;
+    let z = k % SIGN >> 52;
+    if !bits::usual(x, y, z, 2047) {
+        return outside(a, b, c);
+    }
+    let d = std::num::wrapping_sub_u64(x + y, z + 1003);
+    if d <= 60 {
+        return quick::close(a, b, c, i, j, k, d);
+    }
+    general::whole(a, b, c)
+}

@@ -1,0 +1,106 @@
+// Numbers of two digits in base 2 ^ 64: hi * 2 ^ 64 + lo.
+ghost use mathlib.Core.Path.{_≡_};
+ghost use mathlib.Core.Logic.{_⊎_};
+ghost use Prim.Native.Nat.{_+_, _-_, _*_, _^_, _≤_, _<_};
+ghost use Rattle.rounding.specs.Steps as Steps;
+
+pub struct Long {
+    pub hi: u64,
+    pub lo: u64,
+}
+
+// (ah * 2 ^ 32 + al) * (bh * 2 ^ 32 + bl)
+pub fn times(ah: u64, al: u64, bh: u64, bl: u64) -> Long
+    requires { ⌜ ah < 2 ^ 21 ⌝ }
+    requires { ⌜ al < 2 ^ 32 ⌝ }
+    requires { ⌜ bh < 2 ^ 21 ⌝ }
+    requires { ⌜ bl < 2 ^ 32 ⌝ }
+    ensures { λ r. ⌜ r .hi * 2 ^ 64 + r .lo ≡ (ah * 2 ^ 32 + al) * (bh * 2 ^ 32 + bl) ⌝ }
+    ensures { λ r. ⌜ r .hi < 2 ^ 43 ⌝ }
+    ensures { λ r. ⌜ ah * bh ≤ r .hi ⌝ }
+{
+    let low = al * bl;
+    let mid = ah * bl + al * bh + (low >> 32);
+    Long {
+        hi: ah * bh + (mid >> 32),
+        lo: (mid << 32) + low % 0x1_0000_0000,
+    }
+}
+
+// q * 2 ^ (64 - t)
+pub fn placed(q: u64, t: u64) -> Long
+    requires { ⌜ 3 ≤ t ⌝ }
+    requires { ⌜ t ≤ 63 ⌝ }
+    ensures { λ r. ⌜ r .hi * 2 ^ 64 + r .lo ≡ q * 2 ^ (64 - t) ⌝ }
+    ensures { λ r. ⌜ r .hi < 2 ^ 61 ⌝ }
+{
+    Long {
+        hi: q >> t,
+        lo: q << (64 - t),
+    }
+}
+
+pub fn plus(ah: u64, al: u64, bh: u64, bl: u64) -> Long
+    requires { ⌜ ah < 2 ^ 43 ⌝ }
+    requires { ⌜ bh < 2 ^ 61 ⌝ }
+    ensures { λ r. ⌜ r .hi * 2 ^ 64 + r .lo ≡ ah * 2 ^ 64 + al + (bh * 2 ^ 64 + bl) ⌝ }
+    ensures { λ r. ⌜ r .hi < 2 ^ 62 ⌝ }
+    ensures { λ r. ⌜ ah ≤ r .hi ⌝ }
+{
+    let lo = std::num::wrapping_add_u64(al, bl);
+    if lo < al {
+        return Long {
+            hi: ah + bh + 1,
+            lo: lo,
+        };
+    }
+    Long {
+        hi: ah + bh,
+        lo: lo,
+    }
+}
+
+// 1 where a is below b.
+fn lacks(a: u64, b: u64) -> u64
+    ensures { λ r. ⌜ ((r ≡ 1) × (a < b)) ⊎ ((r ≡ 0) × (b ≤ a)) ⌝ }
+{
+    if a < b { 1 } else { 0 }
+}
+
+pub fn minus(ah: u64, al: u64, bh: u64, bl: u64) -> Long
+    requires { ⌜ bh < ah ⌝ }
+    ensures { λ r. ⌜ r .hi * 2 ^ 64 + r .lo ≡ ah * 2 ^ 64 + al - (bh * 2 ^ 64 + bl) ⌝ }
+    ensures { λ r. ⌜ r .hi ≤ ah ⌝ }
+{
+    Long {
+        hi: ah - bh - lacks(al, bl),
+        lo: std::num::wrapping_sub_u64(al, bl),
+    }
+}
+
+// m, and odd where something is cut off from it
+pub fn stuck(m: u64, rest: u64) -> u64
+    ensures { λ r. ⌜ r ≡ Steps.stuck m rest ⌝ }
+{
+    if rest == 0 {
+        return m;
+    }
+    m + (1 - m % 2)
+}
+
+// The number as one of 63 digits, odd where digits are lost; all but k of its last 64 are cut off.
+pub fn top(hi: u64, lo: u64) -> bits::Part
+    requires { ⌜ 0 < hi ⌝ }
+    requires { ⌜ hi < 2 ^ 62 ⌝ }
+    ensures { λ r. ⌜ 2 ^ 62 ≤ r .m ⌝ }
+    ensures { λ r. ⌜ r .m < 2 ^ 63 ⌝ }
+    ensures { λ r. ⌜ Steps.Sticky (r .m) (hi * 2 ^ 64 + lo) (2 ^ (64 - r .k)) ⌝ }
+    ensures { λ r. ⌜ 1 ≤ r .k ⌝ }
+    ensures { λ r. ⌜ r .k ≤ 62 ⌝ }
+{
+    let t = u64::leading_zeros(hi) as u64 - 1;
+    bits::Part {
+        m: stuck((hi << t) | (lo >> (64 - t)), lo << t),
+        k: t,
+    }
+}

@@ -1,0 +1,85 @@
+// a * b + c for normal `f64` whose two terms, whole, have two digits of base 2 ^ 64: one product, one
+// sum, one normalisation.
+use crate::general;
+use crate::long;
+ghost use mathlib.Core.Path.{_≡_};
+ghost use Prim.Native.Nat.{_+_, _-_, _*_, _^_, _≤_, _<_};
+ghost use lib.Ieee.{binary64, ofBits, round, sum};
+ghost use Rattle.rounding.specs.Steps.{Near};
+ghost use Rattle.rounding.specs.Fma.{fma};
+
+const SIGN: u64 = 0x8000_0000_0000_0000;
+
+// ±(hi * 2 ^ 64 + lo) * 2 ^ (x - 2) units of 2 ^ -2148, rounded, where that is a normal value.
+fn normal(s: bool, hi: u64, lo: u64, x: u64) -> f64
+    requires { ⌜ 0 < hi ⌝ }
+    requires { ⌜ hi < 2 ^ 62 ⌝ }
+    requires { ⌜ 1065 ≤ x ⌝ }
+    requires { ⌜ x ≤ 3048 ⌝ }
+    ensures { λ r. ⌜ r ≡ round binary64 s ((hi * 2 ^ 64 + lo) * 2 ^ (x - 2)) (2 ^ 2148) ⌝ }
+{
+    let g = long::top(hi, lo);
+    general::signed(s, (x - 1002 - g.k << 52) + bits::nearest(g.m, 10))
+}
+
+// The sum of the terms (ph * 2 ^ 64 + pl) * 2 ^ (x - 2) and (vh * 2 ^ 64 + vl) * 2 ^ (x - 2) with
+// their signs s and t, for a * b + c. What nearly cancels is left to `whole`.
+fn joined(
+    a: f64,
+    b: f64,
+    c: f64,
+    s: bool,
+    t: bool,
+    ph: u64,
+    pl: u64,
+    vh: u64,
+    vl: u64,
+    x: u64,
+) -> f64
+    requires { ⌜ fma binary64 a b c ≡ sum binary64 s ((ph * 2 ^ 64 + pl) * 2 ^ (x - 2)) t ((vh * 2 ^ 64 + vl) * 2 ^ (x - 2)) (2 ^ 2148) ⌝ }
+    requires { ⌜ 0 < ph ⌝ }
+    requires { ⌜ ph < 2 ^ 43 ⌝ }
+    requires { ⌜ vh < 2 ^ 61 ⌝ }
+    requires { ⌜ 1065 ≤ x ⌝ }
+    requires { ⌜ x ≤ 3048 ⌝ }
+    ensures { λ r. ⌜ r ≡ fma binary64 a b c ⌝ }
+{
+    if s == t {
+        let w = long::plus(ph, pl, vh, vl);
+        return normal(s, w.hi, w.lo, x);
+    }
+    if vh < ph {
+        let w = long::minus(ph, pl, vh, vl);
+        if w.hi == 0 {
+            return general::whole(a, b, c);
+        }
+        return normal(s, w.hi, w.lo, x);
+    }
+    if ph < vh {
+        let w = long::minus(vh, vl, ph, pl);
+        if w.hi == 0 {
+            return general::whole(a, b, c);
+        }
+        return normal(t, w.hi, w.lo, x);
+    }
+    general::whole(a, b, c)
+}
+
+// a * b + c where the two terms, whole, have two digits of base 2 ^ 64.
+pub fn close(a: f64, b: f64, c: f64, i: u64, j: u64, k: u64, d: u64) -> f64
+    requires { ⌜ Near binary64 i j k (72 - d) ⌝ }
+    requires { ⌜ d ≤ 60 ⌝ }
+    requires { ⌜ fma binary64 a b c ≡ fma binary64 (ofBits binary64 i) (ofBits binary64 j) (ofBits binary64 k) ⌝ }
+    ensures { λ r. ⌜ r ≡ fma binary64 a b c ⌝ }
+{
+    let x = (i % SIGN >> 52) + (j % SIGN >> 52);
+    let p = long::times(
+        (i >> 32) % 0x10_0000 + 0x10_0000,
+        i % 0x1_0000_0000,
+        (j >> 32) % 0x10_0000 + 0x10_0000,
+        j % 0x1_0000_0000,
+    );
+    let v = long::placed(SIGN + (k << 11) % SIGN, d + 3);
+    let s = (SIGN <= i) != (SIGN <= j);
+    joined(a, b, c, s, SIGN <= k, p.hi, p.lo, v.hi, v.lo, x)
+}

@@ -1,0 +1,32 @@
+// Float arithmetic as document 01 has it: fused multiply-add in both widths, size, truncation,
+// `f64` to `f32` and back, and bits. Every function is total, and every NaN that it returns is the
+// quiet 7FC00000 or 7FF8000000000000.
+mod casts;
+
+pub use bits::bits32;
+pub use bits::bits64;
+pub use bits::from_bits32;
+pub use bits::from_bits64;
+pub use bits::settled32;
+pub use bits::settled64;
+pub use casts::narrowed;
+pub use casts::size32;
+pub use casts::size64;
+pub use casts::truncated;
+pub use casts::widened;
+ghost use mathlib.Core.Path.{_≡_};
+ghost use lib.Ieee.{binary32, binary64};
+ghost use Rattle.rounding.specs.Fma.{fma};
+
+// a * b + c, the product exact and one rounding.
+pub fn fma32(a: f32, b: f32, c: f32) -> f32
+    ensures { λ r. ⌜ r ≡ fma binary32 a b c ⌝ }
+{
+    single::fma(a, b, c)
+}
+
+pub fn fma64(a: f64, b: f64, c: f64) -> f64
+    ensures { λ r. ⌜ r ≡ fma binary64 a b c ⌝ }
+{
+    double::fma(a, b, c)
+}

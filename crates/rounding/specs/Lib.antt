@@ -1,0 +1,3 @@
+pub mod Fma
+pub mod Casts
+pub mod Steps

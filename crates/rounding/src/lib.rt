@@ -1,0 +1,1 @@
+// Definitions and laws, with no function of its own.

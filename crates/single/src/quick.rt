@@ -1,0 +1,56 @@
+// a * b + c for normal `f32` whose two terms, whole, have 62 digits: one product, one sum, one
+// normalisation.
+use crate::general;
+ghost use mathlib.Core.Path.{_≡_};
+ghost use Prim.Native.Nat.{_+_, _-_, _*_, _^_, _≤_, _<_};
+ghost use lib.Ieee.{binary32, ofBits, round, sum};
+ghost use Rattle.rounding.specs.Steps.{Near};
+ghost use Rattle.rounding.specs.Fma.{fma};
+
+const SIGN: u64 = 0x8000_0000;
+
+// ±n * 2 ^ (x - 2) units of 2 ^ -298, rounded, where that is a normal value.
+fn normal(s: bool, n: u64, x: u64) -> f32
+    requires { ⌜ 0 < n ⌝ }
+    requires { ⌜ n < 2 ^ 63 ⌝ }
+    requires { ⌜ 174 ≤ x ⌝ }
+    requires { ⌜ x ≤ 365 ⌝ }
+    ensures { λ r. ⌜ r ≡ round binary32 s (n * 2 ^ (x - 2)) (2 ^ 298) ⌝ }
+{
+    let g = general::grown(n, x - 2);
+    general::signed(s, (g.k - 110 << 23) + bits::nearest(g.m, 39))
+}
+
+// The sum of the terms p * 2 ^ (x - 2) and v * 2 ^ (x - 2), with their signs.
+fn joined(s: bool, t: bool, p: u64, v: u64, x: u64) -> f32
+    requires { ⌜ 0 < p ⌝ }
+    requires { ⌜ p < 2 ^ 48 ⌝ }
+    requires { ⌜ v < 2 ^ 62 ⌝ }
+    requires { ⌜ 174 ≤ x ⌝ }
+    requires { ⌜ x ≤ 365 ⌝ }
+    ensures { λ r. ⌜ r ≡ sum binary32 s (p * 2 ^ (x - 2)) t (v * 2 ^ (x - 2)) (2 ^ 298) ⌝ }
+{
+    if s == t {
+        return normal(s, p + v, x);
+    }
+    if p < v {
+        return normal(t, v - p, x);
+    }
+    if v < p {
+        return normal(s, p - v, x);
+    }
+    0.0
+}
+
+// a * b + c where the two terms, whole, have 62 digits.
+pub fn close(a: u64, b: u64, c: u64, d: u64) -> f32
+    requires { ⌜ Near binary32 a b c d ⌝ }
+    requires { ⌜ d ≤ 38 ⌝ }
+    ensures { λ r. ⌜ r ≡ fma binary32 (ofBits binary32 a) (ofBits binary32 b) (ofBits binary32 c) ⌝ }
+{
+    let x = (a % SIGN >> 23) + (b % SIGN >> 23);
+    let p = (0x80_0000 + a % 0x80_0000) * (0x80_0000 + b % 0x80_0000);
+    let v = 0x80_0000 + c % 0x80_0000 << d;
+    let s = (SIGN <= a) != (SIGN <= b);
+    joined(s, SIGN <= c, p, v, x)
+}
