@@ -11,8 +11,9 @@ use lib.Pow.{pow-add, pow-pos, pow-mono, shl-lt}
 use lib.Ieee.{Format, binary32, binary64, prec, low, sum, round}
 use lib.Ieee.Bits.{is-true, is-false}
 use Rattle.rounding.specs.Steps.{Sticky, stick}
-use Rattle.rounding.proofs.Sticky.{leb-or, sticky-add, sticky-less, sticky-from, under-even, over-even}
+use Rattle.rounding.proofs.Sticky.{sticky-add, sticky-less, sticky-from, under-even, over-even}
 use Rattle.rounding.proofs.Round.{round-sticky}
+use Rattle.rounding.proofs.Closest.{le-or-lt}
 
 -- ---- `stick`
 cut-odd : (a g q r : ℕ) → q * g + r ≡ a → 0 < r → r < g → Sticky (q + (1 - q % 2)) a g
@@ -31,7 +32,7 @@ stick-is a s = go (eqb (a % 2 ^ s) 0) (eqb→eq (a % 2 ^ s) 0) (λ (h : a % 2 ^ 
     whole = div-add-mod' a (2 ^ s)
 
     some : (r : ℕ) → (r ≡ 0 → ⊥) → 0 < r
-    some r n = elim (leb-or r 0) [ inl h ↦ absurd (n (omega arith)) | inr h ↦ h ]
+    some r n = elim (le-or-lt r 0) [ inl h ↦ absurd (n (omega arith)) | inr h ↦ h ]
 
     go : (b : Bool) → (T b → a % 2 ^ s ≡ 0) → (a % 2 ^ s ≡ 0 → T b) → Sticky (cond b (a / 2 ^ s) (a / 2 ^ s + (1 - a / 2 ^ s % 2))) a (2 ^ s)
     go true h k = let z = h tt in inl (omega (arith, whole))
@@ -140,7 +141,7 @@ module _ (f : Format) (S A M j d : ℕ) (st : Sticky S A (2 ^ j)) (far : (j + 2 
       elim (same-or-not (Bool·beq s t)) [
         | inl h ↦ sum-like f s t A b c h ∙ added s ∙ sym (sum-like f s t (S * 2 ^ j) b c h)
         | inr h ↦
-            elim (leb-or S (2 * M)) [
+            elim (le-or-lt S (2 * M)) [
               | inl k ↦
                   let k' : S < 2 * M = omega arith in
                   sum-less f s t A b c h (under-even S A (2 ^ j) M (pow-pos j) st k') ∙ taken t k ∙ sym (sum-less f s t (S * 2 ^ j) b c h (mul-lt-mul-of-pos-right k' (pow-pos j)))
@@ -175,9 +176,9 @@ sum-flip f s t a b c =
           sum-like f s t a b c h ∙ ap (λ (x : ℕ). round f s x c) (add-comm a b) ∙ ap (λ (x : Bool). round f x (b + a) c) (beq-eq s t h) ∙ sym (sum-like f t s b a c (subst T (beq-flip s t) h))
       | inr h ↦
           let h' = subst (λ (x : Bool). T (not x)) (beq-flip s t) h in
-          elim (leb-or a b) [
+          elim (le-or-lt a b) [
             | inl k ↦
-                elim (leb-or b a) [
+                elim (le-or-lt b a) [
                   | inl l ↦
                       let e : a ≡ b = omega arith in
                       ap (λ (x : ℕ). sum f s x t b c) e ∙ sum-none f s t b c h ∙ sym (sum-none f t s b c h') ∙ ap (λ (x : ℕ). sum f t b s x c) (sym e)
@@ -261,7 +262,7 @@ module _ (f : Format) (p x c k : ℕ) (p-lt : p < 2 ^ (2 * prec f)) (c-lt : c < 
   far-x : x < k + start f → (stick (p * 2 ^ lift f) (k + start f - x) * 2 ^ (k + start f) ≡ p * 2 ^ lift f * 2 ^ x)
       ⊎ ((k + start f + 2 ≤ deep f) ⊎ (stick (p * 2 ^ lift f) (k + start f - x) + 2 ^ (prec f + 1) ≤ c * 2 ^ lift-c f))
   far-x l =
-      elim (leb-or (k + start f - x) (lift f)) [
+      elim (le-or-lt (k + start f - x) (lift f)) [
         | inl h ↦ inl (exact-up p (lift f) x (k + start f) (omega arith) h)
         | inr h ↦
             elim c-ok [
@@ -285,7 +286,7 @@ module _ (f : Format) (p x c k : ℕ) (p-lt : p < 2 ^ (2 * prec f)) (c-lt : c < 
   far-y : k + start f ≤ x → (stick (c * 2 ^ lift-c f) (x - (k + start f)) * 2 ^ x ≡ c * 2 ^ lift-c f * 2 ^ (k + start f))
       ⊎ ((x + 2 ≤ deep f) ⊎ (stick (c * 2 ^ lift-c f) (x - (k + start f)) + 2 ^ (prec f + 1) ≤ p * 2 ^ lift f))
   far-y l =
-      elim (leb-or (x - (k + start f)) (lift-c f)) [
+      elim (le-or-lt (x - (k + start f)) (lift-c f)) [
         | inl h ↦ inl (exact-up c (lift-c f) (k + start f) x l h)
         | inr h ↦
             elim p-ok [
@@ -313,7 +314,7 @@ module _ (f : Format) (p x c k : ℕ) (p-lt : p < 2 ^ (2 * prec f)) (c-lt : c < 
       let b = c * 2 ^ lift-c f in
       let y = k + start f in
       let den = 2 ^ (deep f + low f) in
-      elim (leb-or y x) [
+      elim (le-or-lt y x) [
         | inl l ↦
             let m : max x y ≡ x = omega arith in
             let e : a ≡ 2 * (p * 2 ^ (lift f - 1)) = even p (lift f) (lift-pos f) in

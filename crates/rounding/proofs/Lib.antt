@@ -1,4 +1,10 @@
--- What `fma` needs of rounding, on plain numbers.
+-- The laws of rounding, then what the functions of fused multiply-add need of it.
+pub mod Laws
+pub mod Snap
+pub mod Units
+pub mod Sizes
+pub mod Towards
+pub mod Smoothing
 pub mod Closest
 pub mod Sticky
 pub mod Round
@@ -6,10 +12,10 @@ pub mod Pattern
 pub mod Values
 pub mod Fused
 pub mod Machine
-pub mod Close
-pub mod Zero
-pub mod TwoDigits
-pub mod Nan
-pub mod Lossy
-pub mod Words
+pub mod Terms
 pub mod Nearby
+pub mod Zero
+pub mod Nan
+pub mod TwoDigits
+pub mod Words
+pub mod Casts

@@ -1,4 +1,4 @@
--- What the functions of `src/bits.rt` compute on a machine's numbers is what `specs/Work.antt` says. Assumes nothing.
+-- What the shared steps compute on a machine's numbers of 64 digits is what `specs/Steps.antt` says. Assumes nothing.
 use mathlib.Core.Path.{_≡_, refl, sym, ap, _∙_, subst}
 use mathlib.Core.Logic.{_⊎_, inl, inr}
 use Prim.Native.Nat.{ℕ, zero, suc, _+_, _-_, _*_, _/_, _%_, _^_, _≤_, _<_, compare}
@@ -13,8 +13,7 @@ use lib.Ieee.Fits.{nearest-le}
 use lib.Ieee.Bits.{is-false}
 use lib.Ieee.Nearest.{closest}
 use Rattle.rounding.specs.Steps.{stick, significand, pattern}
-use Rattle.rounding.proofs.Closest.{closest-down, closest-tie, closest-up}
-use Rattle.rounding.proofs.Sticky.{leb-or}
+use Rattle.rounding.proofs.Closest.{le-or-lt, closest-down, closest-tie, closest-up}
 use Rattle.rounding.proofs.Fused.{stick-whole}
 use Rattle.rounding.proofs.Pattern.{nothing-left}
 
@@ -58,9 +57,9 @@ stick-far a s h k n =
 nearest-digits : (n u h q r : ℕ) → 0 < h → u ≡ 2 * h → n ≡ q * u + r → r < u → (n + (h - 1) + q % 2) / u ≡ closest n u
 nearest-digits n u h q r H U e l =
     let su : suc q * u ≡ q * u + u = suc-mul q u in
-    elim (leb-or h r) [
+    elim (le-or-lt h r) [
       | inl a ↦
-          elim (leb-or r h) [
+          elim (le-or-lt r h) [
             | inl b ↦ tie (q % 2) refl (omega arith)
             | inr b ↦
                 ap (λ (x : ℕ). x / u) (omega arith) ∙ digits-div (suc q) {m = u} {r = r + (h - 1) + q % 2 - u} (omega arith) ∙ sym (closest-up n u q r e l (omega arith))
@@ -126,12 +125,12 @@ nearest-up n h k = closest-up n (2 ^ 64) 0 n (omega arith) h (omega arith)
 
 pub nearest-none : (n i : ℕ) → n < 2 ^ 64 → 63 < i → (i ≡ 64 → n ≤ 2 ^ 63) → closest n (2 ^ i) ≡ 0
 nearest-none n i h k t =
-    elim (leb-or i 64) [
+    elim (le-or-lt i 64) [
       | inl a ↦
           let e : i ≡ 64 = omega arith in
           let m : n ≤ 2 ^ 63 = t e in
           ap (λ (x : ℕ). closest n (2 ^ x)) e
-          ∙ elim (leb-or (2 ^ 63) n) [
+          ∙ elim (le-or-lt (2 ^ 63) n) [
             | inl b ↦ closest-tie n (2 ^ 64) 0 n (omega arith) (omega arith) (omega arith)
             | inr b ↦ closest-down n (2 ^ 64) 0 n (omega arith) (omega arith)
           ]

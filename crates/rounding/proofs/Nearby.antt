@@ -16,7 +16,7 @@ use Rattle.rounding.specs.Steps.{Sticky, Near, usual, significand, patte
 use Rattle.rounding.specs.Fma.{fma}
 use Rattle.rounding.proofs.Machine.{pattern-normal, pattern-small, significand-some}
 use Rattle.rounding.proofs.Values.{fma-at, bits-value, same-test}
-use Rattle.rounding.proofs.Close.{round-of-sticky}
+use Rattle.rounding.proofs.Terms.{round-of-sticky}
 
 -- ---- an exponent's field that is not all ones
 odd-finite : (d : ℕ) (s : Bool) (q k l : ℕ) → T (finite (odd d s q k l))

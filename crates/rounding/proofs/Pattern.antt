@@ -14,8 +14,7 @@ use lib.Ieee.Exact.{HasValue, units-val}
 use lib.Ieee.Bits.{ofBits-toBits}
 use lib.Ieee.Nearest.{closest, closest-same, nearest-ge}
 use Rattle.rounding.specs.Steps.{pattern}
-use Rattle.rounding.proofs.Closest.{closest-down}
-use Rattle.rounding.proofs.Sticky.{leb-or}
+use Rattle.rounding.proofs.Closest.{le-or-lt, closest-down}
 use Rattle.rounding.proofs.Round.{dropped, round-units}
 
 pub size-gt : (n j : ℕ) → 2 ^ j ≤ n → j < size n
@@ -95,7 +94,7 @@ outside p m q k P M a b l =
     let up : 2 ^ (m + (p - 1)) ≤ 2 ^ (p + k) = le-trans l (le-trans (mul-le-mul-right (2 ^ k) a) (le-of-eq (sym (pow-add 2 p k)))) in
     let k-ge : m ≤ suc k = omega (arith, pow-le-back (m + (p - 1)) (p + k) up) in
     let h-le : 2 ^ (p - 1) ≤ q = b (omega arith) in
-    elim (leb-or m k) [
+    elim (le-or-lt m k) [
       | inl g ↦ let y : (m + 1) * 2 ^ (p - 1) ≤ (k + 1) * 2 ^ (p - 1) = mul-le-mul-right (2 ^ (p - 1)) (omega arith) in omega (arith, add-mul k 1 (2 ^ (p - 1)), one-mul (2 ^ (p - 1)))
       | inr g ↦
           let e : m + (p - 1) ≡ p + k = omega arith in
@@ -150,7 +149,7 @@ units-bits f s q k a b =
     let p = prec f in
     let P : 0 < p = two-le-pos p (two f) in
     let o = overflow-at f in
-    elim (leb-or (2 ^ (low f + suc (emax f))) (q * 2 ^ k)) [
+    elim (le-or-lt (2 ^ (low f + suc (emax f))) (q * 2 ^ k)) [
       | inl h ↦
           ap (λ (x : Float). toBits f x) (units-inf f s q k h)
           ∙ toBits-inf f s
@@ -194,7 +193,7 @@ size-63 n e d a b =
     let z = 63 + e - d in
     let most : size (n * 2 ^ e / 2 ^ d) ≤ z = size-le (n * 2 ^ e / 2 ^ d) z
     (div-lt-iff-lt-mul (pow-pos d) .1 (lt-of-lt-of-le top (le-trans (pow-mono {i = 63 + e} {j = z + d} (omega arith)) (le-of-eq (pow-add 2 z d))))) in
-    elim (leb-or d (62 + e)) [
+    elim (le-or-lt d (62 + e)) [
       | inl h ↦
           let w = 62 + e - d in
           let least : w < size (n * 2 ^ e / 2 ^ d) = size-gt (n * 2 ^ e / 2 ^ d) w

@@ -11,7 +11,8 @@ use lib.Ieee.Digits.{size-lt, size-le}
 use lib.Ieee.Fits.{core, round-is}
 use lib.Ieee.Nearest.{closest, closest-same}
 use Rattle.rounding.specs.Steps.{Sticky}
-use Rattle.rounding.proofs.Sticky.{leb-or, closest-sticky, under-even, from-even}
+use Rattle.rounding.proofs.Sticky.{closest-sticky, under-even, from-even}
+use Rattle.rounding.proofs.Closest.{le-or-lt}
 
 -- ---- `round` at a / 2 ^ (d + low): in units of the format's smallest value it is a / 2 ^ d
 unfoldable pub dropped : Format → ℕ → ℕ → ℕ
@@ -60,10 +61,10 @@ no-smaller N j e n h l =
 -- A stands as low as N does only where N is 2 at least, or the power is no less than 2 ^ (j + 1)
 module _ (N A j d : ℕ) (s : Sticky N A (2 ^ j)) (far : (2 ≤ N) ⊎ (j + 1 ≤ d)) where
   down : (t : ℕ) → N * 2 ^ j < 2 ^ (t + d) → A < 2 ^ (t + d)
-  down t l = elim (leb-or (j + 1) (t + d)) [ inl h ↦ under-pow N A j (t + d) s h l | inr h ↦ elim far [ inl n ↦ absurd (no-smaller N j (t + d) n h l) | inr k ↦ absurd (omega arith) ] ]
+  down t l = elim (le-or-lt (j + 1) (t + d)) [ inl h ↦ under-pow N A j (t + d) s h l | inr h ↦ elim far [ inl n ↦ absurd (no-smaller N j (t + d) n h l) | inr k ↦ absurd (omega arith) ] ]
 
   up : (t : ℕ) → A < 2 ^ (t + d) → N * 2 ^ j < 2 ^ (t + d)
-  up t l = elim (leb-or (j + 1) (t + d)) [ inl h ↦ stands-under-pow N A j (t + d) s h l | inr h ↦ elim far [ inl n ↦ absurd (low-side n h) | inr k ↦ absurd (omega arith) ] ]
+  up t l = elim (le-or-lt (j + 1) (t + d)) [ inl h ↦ stands-under-pow N A j (t + d) s h l | inr h ↦ elim far [ inl n ↦ absurd (low-side n h) | inr k ↦ absurd (omega arith) ] ]
     where
       low-side : 2 ≤ N → t + d < j + 1 → ⊥
       low-side n h =

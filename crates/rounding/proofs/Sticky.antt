@@ -9,14 +9,7 @@ use mathlib.Core.Bool.{Bool, true, false, not}
 use lib.Dec.{T, leb, leb→le, nleb→lt}
 use lib.Ieee.Nearest.{closest, closest-same}
 use Rattle.rounding.specs.Steps.{Sticky}
-use Rattle.rounding.proofs.Closest.{closest-down, closest-up}
-
-pub leb-or : (a b : ℕ) → (a ≤ b) ⊎ (b < a)
-leb-or a b = go (leb a b) (leb→le a b) (nleb→lt a b)
-  where
-    go : (t : Bool) → (T t → a ≤ b) → (T (not t) → b < a) → (a ≤ b) ⊎ (b < a)
-    go true h k = inl (h tt)
-    go false h k = inr (k tt)
+use Rattle.rounding.proofs.Closest.{le-or-lt, closest-down, closest-up}
 
 -- ---- it rounds as what it stands for
 
@@ -74,7 +67,7 @@ odd-case N A g v h g0 v0 e lo hi =
     let r-lt : r < 4 * v = mod-lt N (omega arith) in
     let lo' : (4 * (w * v) + 2 * y) * g < A = subst (λ (z : ℕ). z * g < A) (s .1) lo in
     let hi' : A < (4 * (w * v) + 2 * y + 2) * g = subst (λ (z : ℕ). A < (z + 2) * g) (s .1) hi in
-    elim (leb-or v y) [
+    elim (le-or-lt v y) [
       | inl k ↦ above g v w y A g0 lo' hi' k (omega (arith, s .0)) ∙ sym (closest-up N (4 * v) w r (sym q) r-lt (omega (arith, s .0)))
       | inr k ↦ below g v w y A g0 lo' hi' k ∙ sym (closest-down N (4 * v) w r (sym q) (omega (arith, s .0)))
     ]

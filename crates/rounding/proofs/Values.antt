@@ -39,7 +39,7 @@ mixed a b = go (ltb a (suc b)) (ltb→lt a (suc b)) (nltb→le a (suc b))
         split : (x y : ℕ) → suc y ≤ x → x ≡ x - suc y + suc y
         split x y l = omega arith
 
-up-down : (e d : ℤ) → up e * up d * down (e +ℤ d) ≡ up (e +ℤ d) * (down e * down d)
+pub up-down : (e d : ℤ) → up e * up d * down (e +ℤ d) ≡ up (e +ℤ d) * (down e * down d)
 up-down (pos a) (pos b) = mul-one (2 ^ a * 2 ^ b) ∙ sym (pow-add 2 a b) ∙ sym (mul-one (2 ^ (a + b)))
 up-down (pos a) (negsuc b) = mixed a b
 up-down (negsuc a) (pos b) =
@@ -51,7 +51,7 @@ up-down (negsuc a) (negsuc b) =
     sums x y = omega arith
 
 -- ---- the exact product
-multiplied : (m n ue ud U W de dd a b c d : ℕ) → 0 < de → 0 < dd → ue * ud * W ≡ U * (de * dd) → m * ue * c ≡ a * de → n * ud * d ≡ b * dd → m * n * U * (c * d) ≡ a * b * W
+pub multiplied : (m n ue ud U W de dd a b c d : ℕ) → 0 < de → 0 < dd → ue * ud * W ≡ U * (de * dd) → m * ue * c ≡ a * de → n * ud * d ≡ b * dd → m * n * U * (c * d) ≡ a * b * W
 multiplied m n ue ud U W de dd a b c d E D h p q =
     eq-of-mul-eq-mul-right (de * dd) (mul-pos E D) (m * n * U * (c * d)) (a * b * W)
     (left ∙ ap (λ (x : ℕ). m * n * (c * d) * x) (sym h) ∙ middle ∙ ap (λ (x : ℕ). x * (n * ud * d) * W) p ∙ ap (λ (x : ℕ). a * de * x * W) q ∙ right)

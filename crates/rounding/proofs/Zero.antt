@@ -16,7 +16,7 @@ use lib.Ieee.Scale.{round-same, finite}
 use borrow.Author.Tests.{le-ltb, lt-ltb}
 use Rattle.rounding.specs.Fma.{product, fma}
 use Rattle.rounding.proofs.Values.{add-at, product-value}
-use Rattle.rounding.proofs.Close.{round-zero, fma-plain}
+use Rattle.rounding.proofs.Terms.{round-zero, fma-plain}
 
 -- the pattern of a zero
 nought : (f : Format) (s : Bool) → ofBits f (cond s (top f) 0 + 0) ≡ fin s 0 (pos 0)

@@ -2,7 +2,7 @@
 use mathlib.Core.Path.{sym, ap, _∙_}
 use Prim.Native.Nat.{ℕ, _-_, _*_}
 use native.Mathlib.Nat.{zero-mul, mul-comm}
-use Rattle.rounding.proofs.Close.{exponent-none, exponent-some, factor-none}
+use Rattle.rounding.proofs.Terms.{exponent-none, exponent-some, factor-none}
 use Rattle.bits.proofs.exponent_of.Statement.{statement}
 use Rattle.bits.proofs.exponent_of.Tie as tie
 

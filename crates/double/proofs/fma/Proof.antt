@@ -8,7 +8,7 @@ use lib.Dec.{T}
 use lib.Ieee.{binary64, fits, toBits}
 use Rattle.rounding.specs.Steps.{Near}
 use Rattle.rounding.proofs.Nan.{is-nan, not-nan, fma-nan, quotient}
-use Rattle.rounding.proofs.Close.{fma-of-patterns, not-false}
+use Rattle.rounding.proofs.Terms.{fma-of-patterns, not-false}
 use Rattle.rounding.proofs.Nearby.{near-of, unwrapped}
 use borrow.Author.Needs.{needs}
 use Rattle.double.proofs.fma.Statement.{statement}

@@ -9,7 +9,7 @@ use lib.Ieee.{binary32, fits, toBits}
 use lib.Ieee.Bits.{toBits-lt}
 use Rattle.rounding.specs.Steps.{Near}
 use Rattle.rounding.proofs.Nan.{is-nan, not-nan, fma-nan, quotient}
-use Rattle.rounding.proofs.Close.{fma-of-patterns, not-false}
+use Rattle.rounding.proofs.Terms.{fma-of-patterns, not-false}
 use Rattle.rounding.proofs.Nearby.{near-of, unwrapped}
 use borrow.Author.Needs.{needs}
 use Rattle.single.proofs.fma.Statement.{statement}

@@ -4,7 +4,7 @@ use Prim.Native.Nat.{ℕ, _+_, _-_, _*_, _%_, _^_, _≤_, _<_}
 use native.Mathlib.Nat.{le-trans, le-of-eq}
 use native.Mathlib.Omega.{arith}
 use lib.Ieee.{binary64}
-use Rattle.rounding.proofs.Close.{significand-lt, product-lt, exponent-le, fma-of-terms}
+use Rattle.rounding.proofs.Terms.{significand-lt, product-lt, exponent-le, fma-of-terms}
 use Rattle.rounding.proofs.TwoDigits.{stick-self}
 use borrow.Author.Needs.{needs}
 use Rattle.double.proofs.general.of_patterns.Statement.{statement}

@@ -5,7 +5,7 @@ use native.Mathlib.Omega.{arith}
 use mathlib.Core.Bool.{Bool, not}
 use lib.Dec.{T}
 use lib.Ieee.{binary64, round}
-use Rattle.rounding.proofs.Close.{total-like, total-less, total-more, total-none, less-taken, less-left}
+use Rattle.rounding.proofs.Terms.{total-like, total-less, total-more, total-none, less-taken, less-left}
 use borrow.Author.Needs.{needs}
 use Rattle.double.proofs.general.total.Statement.{statement}
 use Rattle.double.proofs.general.total.Tie as tie

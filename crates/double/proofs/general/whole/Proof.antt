@@ -5,7 +5,7 @@ use mathlib.Core.Logic.{inl, inr}
 use lib.Dec.{T}
 use lib.Ieee.{binary64, fits}
 use lib.Ieee.Scale.{finite}
-use Rattle.rounding.proofs.Close.{not-finite, is-finite, finite-no-nan, fma-plain, fma-third, pattern-finite, fma-of-patterns}
+use Rattle.rounding.proofs.Terms.{not-finite, is-finite, finite-no-nan, fma-plain, fma-third, pattern-finite, fma-of-patterns}
 use Rattle.double.proofs.general.whole.Statement.{statement}
 use Rattle.double.proofs.general.whole.Tie as tie
 

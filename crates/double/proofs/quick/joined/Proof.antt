@@ -6,7 +6,7 @@ use native.Mathlib.Omega.{arith}
 use mathlib.Core.Bool.{Bool, not}
 use lib.Dec.{T}
 use lib.Ieee.{binary64, round}
-use Rattle.rounding.proofs.Close.{total-like, total-less, total-more}
+use Rattle.rounding.proofs.Terms.{total-like, total-less, total-more}
 use Rattle.rounding.proofs.Words.{higher}
 use borrow.Author.Needs.{needs}
 use Rattle.double.proofs.quick.joined.Statement.{statement}

@@ -5,7 +5,7 @@ use mathlib.Core.Bool.{cond}
 use lib.Dec.{T, leb}
 use lib.Ieee.{binary32, binary64, ofBits, toBits, div}
 use Rattle.rounding.proofs.Nan.{is-nan, not-nan}
-use Rattle.rounding.proofs.Lossy.{narrow-nan, narrowed-is}
+use Rattle.rounding.proofs.Casts.{narrow-nan, narrowed-is}
 use borrow.Author.Needs.{needs}
 use Rattle.float.proofs.casts.narrowed.Statement.{statement}
 use Rattle.float.proofs.casts.narrowed.Tie as tie

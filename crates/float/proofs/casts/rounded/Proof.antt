@@ -1,7 +1,7 @@
 -- `float::casts::rounded` meets its contract. Assumes nothing.
 use mathlib.Core.Path.{sym, ap, _∙_}
 use native.Mathlib.Omega.{arith}
-use Rattle.rounding.proofs.Lossy.{rounded-normal, rounded-none, rounded-small}
+use Rattle.rounding.proofs.Casts.{rounded-normal, rounded-none, rounded-small}
 use borrow.Author.Needs.{needs}
 use Rattle.float.proofs.casts.rounded.Statement.{statement}
 use Rattle.float.proofs.casts.rounded.Tie as tie

@@ -7,7 +7,7 @@ use mathlib.Core.Bool.{Bool, true, false, not, cond}
 use native.Mathlib.Nat.{zero-add}
 use lib.Dec.{T}
 use lib.Ieee.{binary32, ofBits, nanBits}
-use Rattle.rounding.proofs.Close.{no-nan}
+use Rattle.rounding.proofs.Terms.{no-nan}
 use Rattle.float.proofs.casts.signed.Statement.{statement}
 use Rattle.float.proofs.casts.signed.Tie as tie
 

@@ -3,7 +3,7 @@ use mathlib.Core.Path.{sym, _∙_, subst}
 use lib.Dec.{T}
 use lib.Ieee.{binary64}
 use Rattle.rounding.proofs.Nan.{is-nan, not-nan, quotient}
-use Rattle.rounding.proofs.Lossy.{absolute-is, absolute-nan, absolute-no-nan}
+use Rattle.rounding.proofs.Casts.{absolute-is, absolute-nan, absolute-no-nan}
 use Rattle.float.proofs.casts.size64.Statement.{statement}
 use Rattle.float.proofs.casts.size64.Tie as tie
 

@@ -2,7 +2,7 @@
 use mathlib.Core.Path.{sym, subst}
 use lib.Dec.{T}
 use lib.Ieee.{ofBits, neg}
-use Rattle.rounding.proofs.Lossy.{cut-none, cut-most}
+use Rattle.rounding.proofs.Casts.{cut-none, cut-most}
 use borrow.Author.Needs.{needs}
 use Rattle.float.proofs.casts.truncated.Statement.{statement}
 use Rattle.float.proofs.casts.truncated.Tie as tie

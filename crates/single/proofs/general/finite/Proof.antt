@@ -2,7 +2,7 @@
 use Prim.Native.Nat.{_-_}
 use native.Mathlib.Omega.{arith}
 use mathlib.Core.Bool.{false}
-use Rattle.rounding.proofs.Close.{no-nan, infinity, finite-above, finite-not-below}
+use Rattle.rounding.proofs.Terms.{no-nan, infinity, finite-above, finite-not-below}
 use lib.Ieee.{binary32, ofBits}
 use Rattle.single.proofs.general.finite.Statement.{statement}
 use Rattle.single.proofs.general.finite.Tie as tie

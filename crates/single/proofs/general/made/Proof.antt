@@ -8,7 +8,7 @@ use native.Mathlib.Omega.{arith}
 use mathlib.Core.Bool.{cond}
 use lib.Ieee.{binary32, round, ofBits}
 use Rattle.rounding.proofs.Machine.{closest-most}
-use Rattle.rounding.proofs.Close.{round-zero}
+use Rattle.rounding.proofs.Terms.{round-zero}
 use Rattle.rounding.proofs.Nearby.{made-normal, made-small}
 use Rattle.single.proofs.general.made.Statement.{statement}
 use Rattle.single.proofs.general.made.Tie as tie

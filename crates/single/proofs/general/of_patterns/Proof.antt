@@ -8,7 +8,7 @@ use lib.Pow.{shr-le}
 use lib.Ieee.{binary32}
 use Rattle.rounding.specs.Steps.{exponent}
 use Rattle.rounding.proofs.Fused.{stick-le}
-use Rattle.rounding.proofs.Close.{significand-lt, product-lt, exponent-le, fma-of-terms}
+use Rattle.rounding.proofs.Terms.{significand-lt, product-lt, exponent-le, fma-of-terms}
 use Rattle.single.proofs.general.of_patterns.Statement.{statement}
 use Rattle.single.proofs.general.of_patterns.Tie as tie
 

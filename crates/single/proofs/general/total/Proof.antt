@@ -5,7 +5,7 @@ use Prim.Native.Nat.{_-_, _^_}
 use mathlib.Core.Bool.{Bool, not}
 use lib.Dec.{T}
 use lib.Ieee.{binary32}
-use Rattle.rounding.proofs.Close.{total-like, total-less, total-more, total-none}
+use Rattle.rounding.proofs.Terms.{total-like, total-less, total-more, total-none}
 use Rattle.single.proofs.general.total.Statement.{statement}
 use Rattle.single.proofs.general.total.Tie as tie
 

@@ -7,7 +7,7 @@ use lib.Dec.{T}
 use lib.Ieee.{binary32, fits}
 use lib.Ieee.Bits.{toBits-lt}
 use lib.Ieee.Scale.{finite}
-use Rattle.rounding.proofs.Close.{not-finite, is-finite, finite-no-nan, fma-plain, fma-third, pattern-finite, fma-of-patterns}
+use Rattle.rounding.proofs.Terms.{not-finite, is-finite, finite-no-nan, fma-plain, fma-third, pattern-finite, fma-of-patterns}
 use Rattle.single.proofs.general.whole.Statement.{statement}
 use Rattle.single.proofs.general.whole.Tie as tie
 

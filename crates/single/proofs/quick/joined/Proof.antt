@@ -5,7 +5,7 @@ use native.Mathlib.Omega.{arith}
 use mathlib.Core.Bool.{Bool, not}
 use lib.Dec.{T}
 use lib.Ieee.{binary32}
-use Rattle.rounding.proofs.Close.{total-like, total-less, total-more, total-none}
+use Rattle.rounding.proofs.Terms.{total-like, total-less, total-more, total-none}
 use borrow.Author.Needs.{needs}
 use Rattle.single.proofs.quick.joined.Statement.{statement}
 use Rattle.single.proofs.quick.joined.Tie as tie

@@ -19,13 +19,12 @@ use lib.Ieee.Scale.{round-same, finite}
 use Rattle.rounding.specs.Steps.{significand, pattern}
 use Rattle.rounding.specs.Casts.{narrow, absolute}
 use Rattle.rounding.proofs.Nan.{is-nan, not-nan}
-use Rattle.rounding.proofs.Closest.{closest-down, closest-tie, closest-up}
-use Rattle.rounding.proofs.Sticky.{leb-or}
+use Rattle.rounding.proofs.Closest.{le-or-lt, closest-down, closest-tie, closest-up}
 use Rattle.rounding.proofs.Round.{dropped}
 use Rattle.rounding.proofs.Pattern.{round-bits, round-63}
 use Rattle.rounding.proofs.Values.{bits-value}
 use Rattle.rounding.proofs.Machine.{significand-some, pattern-normal, pattern-small, pattern-none}
-use Rattle.rounding.proofs.Close.{significand-lt, pattern-finite}
+use Rattle.rounding.proofs.Terms.{significand-lt, pattern-finite}
 
 -- ---- the pattern of an `f32` from that of an `f64`
 -- an even number of b more
@@ -37,9 +36,9 @@ closest-plus k a b p =
     let l : r < b = mod-lt a p in
     let m : (2 * k + q) * b ≡ 2 * k * b + q * b = add-mul (2 * k) q b in
     let w : 2 * k * b + a ≡ (2 * k + q) * b + r = omega arith in
-    elim (leb-or b (r * 2)) [
+    elim (le-or-lt b (r * 2)) [
       | inl h ↦
-          elim (leb-or (r * 2) b) [
+          elim (le-or-lt (r * 2) b) [
             | inl j ↦
                 closest-tie (2 * k * b + a) b (2 * k + q) r w p (omega arith) ∙ tie q ∙ ap (λ (x : ℕ). 2 * k + x) (sym (closest-tie a b q r e p (omega arith)))
             | inr j ↦ closest-up (2 * k * b + a) b (2 * k + q) r w l j ∙ up-one q ∙ ap (λ (x : ℕ). 2 * k + x) (sym (closest-up a b q r e l j))
