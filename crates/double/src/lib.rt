@@ -14,21 +14,8 @@ ghost use Rattle.rounding.specs.Fma as Spec;
 
 const SIGN: u64 = 0x8000_0000_0000_0000;
 
-// A zero needs no whole numbers: without a factor the product is a zero exactly, and without a
-// third term one product is the one rounding.
-fn outside(a: f64, b: f64, c: f64) -> f64
-    ensures { λ r. ⌜ r ≡ Spec.fma binary64 a b c ⌝ }
-{
-    if a == 0.0 || b == 0.0 {
-        return bits::settled64(a * b + c);
-    }
-    if c == 0.0 {
-        return bits::settled64(a * b);
-    }
-    general::whole(a, b, c)
-}
-
-pub fn fma(a: f64, b: f64, c: f64) -> f64
+// a * b + c where none of the three is a zero, by whole numbers; it is right for zeros too.
+fn nonzero(a: f64, b: f64, c: f64) -> f64
     ensures { λ r. ⌜ r ≡ Spec.fma binary64 a b c ⌝ }
 {
     if a != a || b != b || c != c {
@@ -41,11 +28,25 @@ pub fn fma(a: f64, b: f64, c: f64) -> f64
     let y = j % SIGN >> 52;
     let z = k % SIGN >> 52;
     if !bits::usual(x, y, z, 2047) {
-        return outside(a, b, c);
+        return general::whole(a, b, c);
     }
     let d = std::num::wrapping_sub_u64(x + y, z + 1003);
     if d <= 60 {
         return quick::close(a, b, c, i, j, k, d);
     }
     general::whole(a, b, c)
+}
+
+// A zero needs no whole numbers: without a factor the product is a zero exactly, and without a
+// third term one product is the one rounding. Silence is zeros, so they are tested first.
+pub fn fma(a: f64, b: f64, c: f64) -> f64
+    ensures { λ r. ⌜ r ≡ Spec.fma binary64 a b c ⌝ }
+{
+    if a == 0.0 || b == 0.0 {
+        return bits::settled64(a * b + c);
+    }
+    if c == 0.0 {
+        return bits::settled64(a * b);
+    }
+    nonzero(a, b, c)
 }

@@ -9,21 +9,24 @@ pub struct Long {
     pub lo: u64,
 }
 
-// (ah * 2 ^ 32 + al) * (bh * 2 ^ 32 + bl)
-pub fn times(ah: u64, al: u64, bh: u64, bl: u64) -> Long
-    requires { ⌜ ah < 2 ^ 21 ⌝ }
-    requires { ⌜ al < 2 ^ 32 ⌝ }
-    requires { ⌜ bh < 2 ^ 21 ⌝ }
-    requires { ⌜ bl < 2 ^ 32 ⌝ }
-    ensures { λ r. ⌜ r .hi * 2 ^ 64 + r .lo ≡ (ah * 2 ^ 32 + al) * (bh * 2 ^ 32 + bl) ⌝ }
-    ensures { λ r. ⌜ r .hi < 2 ^ 43 ⌝ }
-    ensures { λ r. ⌜ ah * bh ≤ r .hi ⌝ }
+// The product by halves, in the order in which the compiler knows it for one multiplication.
+pub fn times(a: u64, b: u64) -> Long
+    requires { ⌜ a < 2 ^ 53 ⌝ }
+    requires { ⌜ b < 2 ^ 53 ⌝ }
+    ensures { λ r. ⌜ r .hi * 2 ^ 64 + r .lo ≡ a * b ⌝ }
+    ensures { λ r. ⌜ r .lo < 2 ^ 64 ⌝ }
 {
+    let ah = a >> 32;
+    let al = a % 0x1_0000_0000;
+    let bh = b >> 32;
+    let bl = b % 0x1_0000_0000;
     let low = al * bl;
-    let mid = ah * bl + al * bh + (low >> 32);
+    let left = ah * bl + (low >> 32);
+    let right = left % 0x1_0000_0000 + al * bh;
+    let cross = ah * bl + al * bh;
     Long {
-        hi: ah * bh + (mid >> 32),
-        lo: (mid << 32) + low % 0x1_0000_0000,
+        hi: ah * bh + (left >> 32) + (right >> 32),
+        lo: std::num::wrapping_add_u64(cross << 32, low),
     }
 }
 

@@ -5,10 +5,22 @@ use crate::long;
 ghost use mathlib.Core.Path.{_≡_};
 ghost use Prim.Native.Nat.{_+_, _-_, _*_, _^_, _≤_, _<_};
 ghost use lib.Ieee.{binary64, ofBits, round, sum};
+ghost use lib.Ieee.Nearest.{closest};
 ghost use Rattle.rounding.specs.Steps.{Near};
 ghost use Rattle.rounding.specs.Fma.{fma};
 
 const SIGN: u64 = 0x8000_0000_0000_0000;
+
+// The weight of a significand's leading digit.
+const HIDDEN: u64 = 0x10_0000_0000_0000;
+
+// A number of 63 digits to the nearest of 53, a tie to the even one.
+fn kept(m: u64) -> u64
+    requires { ⌜ m < 2 ^ 63 ⌝ }
+    ensures { λ r. ⌜ r ≡ closest m (2 ^ 10) ⌝ }
+{
+    (m + 0x1ff + (m >> 10) % 2) >> 10
+}
 
 // ±(hi * 2 ^ 64 + lo) * 2 ^ (x - 2) units of 2 ^ -2148, rounded, where that is a normal value.
 fn normal(s: bool, hi: u64, lo: u64, x: u64) -> f64
@@ -19,7 +31,7 @@ fn normal(s: bool, hi: u64, lo: u64, x: u64) -> f64
     ensures { λ r. ⌜ r ≡ round binary64 s ((hi * 2 ^ 64 + lo) * 2 ^ (x - 2)) (2 ^ 2148) ⌝ }
 {
     let g = long::top(hi, lo);
-    general::signed(s, (x - 1002 - g.k << 52) + bits::nearest(g.m, 10))
+    general::signed(s, (x - 1002 - g.k << 52) + kept(g.m))
 }
 
 // The sum of the terms (ph * 2 ^ 64 + pl) * 2 ^ (x - 2) and (vh * 2 ^ 64 + vl) * 2 ^ (x - 2) with
@@ -73,12 +85,7 @@ pub fn close(a: f64, b: f64, c: f64, i: u64, j: u64, k: u64, d: u64) -> f64
     ensures { λ r. ⌜ r ≡ fma binary64 a b c ⌝ }
 {
     let x = (i % SIGN >> 52) + (j % SIGN >> 52);
-    let p = long::times(
-        (i >> 32) % 0x10_0000 + 0x10_0000,
-        i % 0x1_0000_0000,
-        (j >> 32) % 0x10_0000 + 0x10_0000,
-        j % 0x1_0000_0000,
-    );
+    let p = long::times(HIDDEN + i % HIDDEN, HIDDEN + j % HIDDEN);
     let v = long::placed(SIGN + (k << 11) % SIGN, d + 3);
     let s = (SIGN <= i) != (SIGN <= j);
     joined(a, b, c, s, SIGN <= k, p.hi, p.lo, v.hi, v.lo, x)

@@ -73,17 +73,19 @@ nearest-digits n u h q r H U e l =
         let su : suc q * u ≡ q * u + u = suc-mul q u in
         ap (λ (x : ℕ). x / u) (omega arith) ∙ digits-div (suc q) {m = u} {r = 0} (omega arith) ∙ omega arith ∙ sym (closest-tie n u q r e (omega arith) (omega arith))
 
+pub nearest-sum : (n i : ℕ) → 1 ≤ i → (n + (2 ^ (i - 1) - 1) + n / 2 ^ i % 2) / 2 ^ i ≡ closest n (2 ^ i)
+nearest-sum n i h = nearest-digits n (2 ^ i) (2 ^ (i - 1)) (n / 2 ^ i) (n % 2 ^ i) (pow-pos (i - 1)) (ap (λ (x : ℕ). 2 ^ x) (again i h) ∙ pow-succ' 2 (i - 1)) (sym (div-add-mod' n (2 ^ i))) (mod-lt n (pow-pos i))
+  where
+    again : (x : ℕ) → 1 ≤ x → x ≡ suc (x - 1)
+    again x k = omega arith
+
+-- the same, the whole part kept apart
 pub nearest-is : (n i : ℕ) → 1 ≤ i → n / 2 ^ i + (n % 2 ^ i + (2 ^ (i - 1) - 1) + n / 2 ^ i % 2) / 2 ^ i ≡ closest n (2 ^ i)
 nearest-is n i h =
     let q = n / 2 ^ i in
     let r = n % 2 ^ i in
     let n-is : n ≡ q * 2 ^ i + r = sym (div-add-mod' n (2 ^ i)) in
-    sym (mul-add-div-right (pow-pos i) q (r + (2 ^ (i - 1) - 1) + q % 2))
-    ∙ ap (λ (x : ℕ). x / 2 ^ i) (omega arith)
-    ∙ nearest-digits n (2 ^ i) (2 ^ (i - 1)) q r (pow-pos (i - 1)) (ap (λ (x : ℕ). 2 ^ x) (again i h) ∙ pow-succ' 2 (i - 1)) n-is (mod-lt n (pow-pos i))
-  where
-    again : (x : ℕ) → 1 ≤ x → x ≡ suc (x - 1)
-    again x k = omega arith
+    sym (mul-add-div-right (pow-pos i) q (r + (2 ^ (i - 1) - 1) + q % 2)) ∙ ap (λ (x : ℕ). x / 2 ^ i) (omega arith) ∙ nearest-sum n i h
 
 -- its terms fit a machine's number
 pub record Halves (n i : ℕ) : Type 0 where

@@ -3,13 +3,13 @@ use mathlib.Core.Path.{_≡_, refl, sym, ap, _∙_, subst}
 use Prim.Native.Nat.{ℕ, zero, suc, _+_, _-_, _*_, _/_, _%_, _^_, _≤_, _<_, min}
 use native.Mathlib.Nat.{mul-comm, mul-assoc, mul-left-comm, mod-eq-of-lt, mod-mod-of-dvd, dvd-mul-right}
 use native.Mathlib.Omega.{arith}
-use mathlib.Core.Bool.{Bool, false, _&&_, cond}
+use mathlib.Core.Bool.{Bool, true, false, _&&_, cond}
 use borrow.Author.Tests.{le-leb, lt-ltb}
-use lib.Dec.{T, leb, ltb, eqb, eqb→eq, leb→le, le→leb, ltb→lt, not-T}
+use lib.Dec.{T, leb, ltb, eqb, eqb→eq, leb→le, le→leb, ltb→lt, lt→ltb, not-T}
 use lib.Pow.{pow-add, pow-pos}
 use lib.Ieee.{nan, inf, Format, binary32, binary64, prec, low, hid, ones, top, unlike, sum, round, odd, ofFields, ofBits}
 use lib.Ieee.Bits.{is-false}
-use lib.Ieee.Fits.{and-l, and-r}
+use lib.Ieee.Fits.{and-i, and-l, and-r}
 use lib.Ieee.Nearest.{closest}
 use lib.Ieee.Scale.{finite}
 use Rattle.rounding.specs.Steps.{Sticky, Near, usual, significand, pattern}
@@ -138,18 +138,22 @@ pub usual-none : (x y z o : ℕ) → (1 ≤ x → x < o → 1 ≤ y → y < o �
 usual-none x y z o n =
     sym (is-false (usual x y z o) (not-T (usual x y z o) (λ (h : T (usual x y z o)). let f = usual-facts x y z o h in n (f .0) (f .1 .0) (f .1 .1 .0) (f .1 .1 .1 .0) (f .1 .1 .1 .1 .0) (f .1 .1 .1 .1 .1))))
 
-pub usual-last : (x y z o : ℕ) → 1 ≤ x → x < o → 1 ≤ y → y < o → 62 ≤ z → z < o → leb 62 (o - z) ≡ usual x y z o
+-- r is x - 1, wrapped
+pub usual-last : (x y z o r : ℕ) → 1 ≤ y → y < o → 62 ≤ z → z + 62 ≤ o → o < 2 ^ 64 → r < 2 ^ 64 → (r + 1) % 2 ^ 64 ≡ x → leb r (o - 2) ≡ usual x y z o
 unfolding usual
-usual-last x y z o a b c d e f = rw (le-leb 1 x a, lt-ltb x o b, le-leb 1 y c, lt-ltb y o d, le-leb 62 z e) last
+usual-last x y z o r a b c d e f g = rw (le-leb 1 y a, lt-ltb y o b, le-leb 62 z c, le-leb (z + 62) o d) last
   where
-    last : leb 62 (o - z) ≡ leb (z + 62) o
-    last = same-test (leb 62 (o - z)) (leb (z + 62) o) (λ (h : T (leb 62 (o - z))). le→leb (z + 62) o (from (leb→le 62 (o - z) h))) (λ (h : T (leb (z + 62) o)). le→leb 62 (o - z) (to (leb→le (z + 62) o h)))
-      where
-        from : 62 ≤ o - z → z + 62 ≤ o
-        from h = omega arith
+    to : r ≤ o - 2 → (1 ≤ x) × (x < o)
+    to k = (omega arith, omega arith)
 
-        to : z + 62 ≤ o → 62 ≤ o - z
-        to h = omega arith
+    from : 1 ≤ x → x < o → r ≤ o - 2
+    from k l = omega arith
+
+    last : leb r (o - 2) ≡ leb 1 x && (ltb x o && true)
+    last =
+        same-test (leb r (o - 2)) (leb 1 x && (ltb x o && true))
+        (λ (t : T (leb r (o - 2))). let w = to (leb→le r (o - 2) t) in and-i (leb 1 x) (ltb x o && true) (le→leb 1 x (w .0)) (and-i (ltb x o) true (lt→ltb x o (w .1)) tt))
+        (λ (t : T (leb 1 x && (ltb x o && true))). le→leb r (o - 2) (from (leb→le 1 x (and-l (leb 1 x) (ltb x o && true) t)) (ltb→lt x o (and-l (ltb x o) true (and-r (leb 1 x) (ltb x o && true) t)))))
 
 pub near-of : (f : Format) (a b c g : ℕ) → T (usual (a % top f / hid f) (b % top f / hid f) (c % top f / hid f) (ones f))
     → c % top f / hid f + (low f + 1) ≡ g + (a % top f / hid f + b % top f / hid f) → Near f a b c g

@@ -26,6 +26,24 @@ quarters x y z w a b c d = (
   mul-le-mul {n₁ = x} {m₁ = z} {n₂ = 2097151} {m₂ = 2097151} (omega arith) (omega arith),
 )
 
+-- the four products h, p, q and l, carried over one after the other
+pub carried : (h p q l lo : ℕ) → p ≤ 9007194957676545 → q ≤ 9007194957676545 → l ≤ 18446744065119617025 → lo ≡ ((p + q) * 4294967296 % 18446744073709551616 + l) % 18446744073709551616
+    → (h + (p + l / 4294967296) / 4294967296 + ((p + l / 4294967296) % 4294967296 + q) / 4294967296) * 18446744073709551616 + lo ≡ h * 18446744073709551616 + (p + q) * 4294967296 + l
+carried h p q l lo a b c e = omega arith
+
+pub carried-fits : (h p q l : ℕ) → h ≤ 4398042316801 → p ≤ 9007194957676545 → q ≤ 9007194957676545 → l ≤ 18446744065119617025
+    → h + (p + l / 4294967296) / 4294967296 + ((p + l / 4294967296) % 4294967296 + q) / 4294967296 < 18446744073709551616
+carried-fits h p q l a b c d = sums h ((p + l / 4294967296) / 4294967296) (((p + l / 4294967296) % 4294967296 + q) / 4294967296) a (left p l b d) (right (p + l / 4294967296) q c)
+  where
+    left : (p l : ℕ) → p ≤ 9007194957676545 → l ≤ 18446744065119617025 → (p + l / 4294967296) / 4294967296 ≤ 8388608
+    left p l b d = omega arith
+
+    right : (m q : ℕ) → q ≤ 9007194957676545 → (m % 4294967296 + q) / 4294967296 ≤ 8388608
+    right m q c = omega arith
+
+    sums : (h x y : ℕ) → h ≤ 4398042316801 → x ≤ 8388608 → y ≤ 8388608 → h + x + y < 18446744073709551616
+    sums h x y a b c = omega arith
+
 -- ---- q moved to the left by 64 - t places
 module _ (q t : ℕ) (k : t ≤ 64) where
   base : 2 ^ t * 2 ^ (64 - t) ≡ 18446744073709551616
@@ -205,12 +223,3 @@ minus-more ah al bh bl lo h k j e =
   where
     whole : (lo al bl : ℕ) → bl ≤ al → lo < 18446744073709551616 → (lo + bl) % 18446744073709551616 ≡ al → lo + bl ≡ al
     whole lo al bl k j e = omega arith
-
-pub upper-fits : (a b d e : ℕ) → d ≤ 4398042316801 → a ≤ 9007194957676545 → b ≤ 9007194957676545 → e ≤ 18446744065119617025 → d + (a + b + e / 4294967296) / 4294967296 < 18446744073709551616
-upper-fits a b d e h i j k = let x = low e k in let y = high (a + b + e / 4294967296) (omega arith) in omega arith
-  where
-    low : (e : ℕ) → e ≤ 18446744065119617025 → e / 4294967296 ≤ 4294967296
-    low e k = omega arith
-
-    high : (m : ℕ) → m ≤ 36028797018963968 → m / 4294967296 ≤ 8388608
-    high m l = omega arith

@@ -33,7 +33,7 @@ pub fn signed(s: bool, b: u64) -> f32
 }
 
 // n * 2 ^ e with 63 digits, for an n that is not 0.
-pub fn grown(n: u64, e: u64) -> bits::Part
+fn grown(n: u64, e: u64) -> bits::Part
     requires { ⌜ 0 < n ⌝ }
     requires { ⌜ n < 2 ^ 63 ⌝ }
     requires { ⌜ 62 ≤ e ⌝ }

@@ -12,21 +12,8 @@ ghost use Rattle.rounding.specs.Fma as Spec;
 
 const SIGN: u64 = 0x8000_0000;
 
-// A zero needs no whole numbers: without a factor the product is a zero exactly, and without a
-// third term one product is the one rounding.
-fn outside(a: f32, b: f32, c: f32) -> f32
-    ensures { λ r. ⌜ r ≡ Spec.fma binary32 a b c ⌝ }
-{
-    if a == 0.0 || b == 0.0 {
-        return bits::settled32(a * b + c);
-    }
-    if c == 0.0 {
-        return bits::settled32(a * b);
-    }
-    general::whole(a, b, c)
-}
-
-pub fn fma(a: f32, b: f32, c: f32) -> f32
+// a * b + c where none of the three is a zero, by whole numbers; it is right for zeros too.
+fn nonzero(a: f32, b: f32, c: f32) -> f32
     ensures { λ r. ⌜ r ≡ Spec.fma binary32 a b c ⌝ }
 {
     if a != a || b != b || c != c {
@@ -39,11 +26,25 @@ pub fn fma(a: f32, b: f32, c: f32) -> f32
     let y = j % SIGN >> 23;
     let z = k % SIGN >> 23;
     if !bits::usual(x, y, z, 255) {
-        return outside(a, b, c);
+        return general::whole(a, b, c);
     }
     let d = std::num::wrapping_sub_u64(z + 150, x + y);
     if d <= 38 {
         return quick::close(i, j, k, d);
     }
     general::whole(a, b, c)
+}
+
+// A zero needs no whole numbers: without a factor the product is a zero exactly, and without a
+// third term one product is the one rounding. Silence is zeros, so they are tested first.
+pub fn fma(a: f32, b: f32, c: f32) -> f32
+    ensures { λ r. ⌜ r ≡ Spec.fma binary32 a b c ⌝ }
+{
+    if a == 0.0 || b == 0.0 {
+        return bits::settled32(a * b + c);
+    }
+    if c == 0.0 {
+        return bits::settled32(a * b);
+    }
+    nonzero(a, b, c)
 }

@@ -4,10 +4,19 @@ use crate::general;
 ghost use mathlib.Core.Path.{_≡_};
 ghost use Prim.Native.Nat.{_+_, _-_, _*_, _^_, _≤_, _<_};
 ghost use lib.Ieee.{binary32, ofBits, round, sum};
+ghost use lib.Ieee.Nearest.{closest};
 ghost use Rattle.rounding.specs.Steps.{Near};
 ghost use Rattle.rounding.specs.Fma.{fma};
 
 const SIGN: u64 = 0x8000_0000;
+
+// A number of 63 digits to the nearest of 24, a tie to the even one.
+fn kept(m: u64) -> u64
+    requires { ⌜ m < 2 ^ 63 ⌝ }
+    ensures { λ r. ⌜ r ≡ closest m (2 ^ 39) ⌝ }
+{
+    (m + 0x3f_ffff_ffff + (m >> 39) % 2) >> 39
+}
 
 // ±n * 2 ^ (x - 2) units of 2 ^ -298, rounded, where that is a normal value.
 fn normal(s: bool, n: u64, x: u64) -> f32
@@ -17,8 +26,8 @@ fn normal(s: bool, n: u64, x: u64) -> f32
     requires { ⌜ x ≤ 365 ⌝ }
     ensures { λ r. ⌜ r ≡ round binary32 s (n * 2 ^ (x - 2)) (2 ^ 298) ⌝ }
 {
-    let g = general::grown(n, x - 2);
-    general::signed(s, (g.k - 110 << 23) + bits::nearest(g.m, 39))
+    let t = u64::leading_zeros(n) as u64;
+    general::signed(s, (x - 111 - t << 23) + kept(n << (t - 1)))
 }
 
 // The sum of the terms p * 2 ^ (x - 2) and v * 2 ^ (x - 2), with their signs.

@@ -1,100 +1,37 @@
 -- `double::fma` meets its contract. Assumes nothing.
-use mathlib.Core.Path.{_≡_, refl, sym, _∙_, subst}
+use mathlib.Core.Path.{_∙_}
 use mathlib.Core.Logic.{inl, inr, ⊎-elim}
-use Prim.Native.Nat.{_+_, _-_}
-use native.Mathlib.Omega.{arith}
-use mathlib.Core.Bool.{not}
-use lib.Dec.{T}
-use lib.Ieee.{binary64, fits, toBits}
-use Rattle.rounding.specs.Steps.{Near}
-use Rattle.rounding.proofs.Nan.{is-nan, not-nan, fma-nan, quotient}
-use Rattle.rounding.proofs.Terms.{fma-of-patterns, not-false}
-use Rattle.rounding.proofs.Nearby.{near-of, unwrapped}
+use lib.Ieee.{binary64}
+use Rattle.rounding.proofs.Zero.{is-zero, zero-factor, zero-third}
 use borrow.Author.Needs.{needs}
 use Rattle.double.proofs.fma.Statement.{statement}
 use Rattle.double.proofs.fma.Tie as tie
 
--- what owning the parameters tells: the format holds them
-held-a : (c : tie.Start) → T (fits binary64 (c .args .a))
-held-a c = subst T (sym (c .good .0 .1)) tt
-
-held-b : (c : tie.Start) → T (fits binary64 (c .args .b))
-held-b c = subst T (sym (c .good .1 .0 .1)) tt
-
-held-c : (c : tie.Start) → T (fits binary64 (c .args .c))
-held-c c = subst T (sym (c .good .1 .1 .0 .1)) tt
+settled64-requires : tie.Need-settled64-requires
+settled64-requires c κs = search needs
 
 returns : tie.Need-returns
 returns c =
-    let a = c .before .args in
-    quotient binary64
-    ∙ sym
-    (fma-nan binary64 (a .a) (a .b) (a .c)
-    (⊎-elim (λ t. inl (is-nan (a .a) (t .taken))) (λ w. ⊎-elim (λ t. inr (inl (is-nan (a .b) (t .1 .taken)))) (λ t. inr (inr (is-nan (a .c) (t .2 .taken)))) w) (c .if1 .came)))
+    let a = c .before .before .args in
+    c .settled64 .ensures
+    ∙ zero-factor binary64 (a .a) (a .b) (a .c) (⊎-elim (λ t. inl (is-zero binary64 (a .a) (t .taken))) (λ t. inr (is-zero binary64 (a .b) (t .1 .taken))) (c .before .if1 .came))
 
-float-to-bits-i : tie.Need-float-to-bits-i
-float-to-bits-i c = not-nan (c .before .before .before .args .a) (c .before .before .if1 .left)
-
-float-to-bits-j : tie.Need-float-to-bits-j
-float-to-bits-j c = not-nan (c .before .before .before .args .b) (c .before .if2 .left)
-
-float-to-bits-k : tie.Need-float-to-bits-k
-float-to-bits-k c = not-nan (c .before .before .before .args .c) (c .if3 .left)
-
-usual-requires : tie.Need-usual-requires
-usual-requires c κs = search needs
-
-outside-requires : tie.Need-outside-requires
-outside-requires c κs = search needs
+settled64-requires-2 : tie.Need-settled64-requires-2
+settled64-requires-2 c κs = search needs
 
 returns-2 : tie.Need-returns-2
-returns-2 c = search needs
+returns-2 c =
+    let a = c .before .before .before .before .args in
+    c .settled642 .ensures
+    ∙ zero-third binary64 (a .a) (a .b) (a .c) (c .before .before .before .if1 .left) (c .before .before .if2 .left) (is-zero binary64 (a .c) (c .before .if3 .taken))
 
-add-wrapping-sub-u64 : tie.Need-add-wrapping-sub-u64
-add-wrapping-sub-u64 c = search needs
-
-add-wrapping-sub-u64-2 : tie.Need-add-wrapping-sub-u64-2
-add-wrapping-sub-u64-2 c = search needs
-
-wrapping-sub-u64-requires : tie.Need-wrapping-sub-u64-requires
-wrapping-sub-u64-requires c κs = search needs
-
-close-requires : tie.Need-close-requires
-close-requires c κs =
-    let s = c .before .before .before .before .before .before .before in
-    let a = s .args in
-    let d = c .before .wrapping-sub-u64 in
-    let u = c .before .before .before .usual in
-    let few = c .if5 .taken in
-    let apart = unwrapped (d .result) _ _ 60 (d .ensures) few (omega arith) in (
-      near-of binary64 (toBits binary64 (a .a)) (toBits binary64 (a .b)) (toBits binary64 (a .c)) (72 - d .result) (not-false (u .result) _ (u .ensures) (c .before .before .if4 .left)) (omega arith),
-      (few, sym (fma-of-patterns binary64 (a .a) (a .b) (a .c) _ (held-a s) (held-b s) (held-c s) refl)),
-    )
+nonzero-requires : tie.Need-nonzero-requires
+nonzero-requires c κs = search needs
 
 returns-3 : tie.Need-returns-3
 returns-3 c = search needs
 
-whole-requires : tie.Need-whole-requires
-whole-requires c κs = search needs
-
-returns-4 : tie.Need-returns-4
-returns-4 c = search needs
-
 pub fma-spec : {M : Type 1} → statement M
 fma-spec =
     tie.close
-    (tie.spec
-    returns
-    float-to-bits-i
-    float-to-bits-j
-    float-to-bits-k
-    usual-requires
-    outside-requires
-    returns-2
-    add-wrapping-sub-u64
-    add-wrapping-sub-u64-2
-    wrapping-sub-u64-requires
-    close-requires
-    returns-3
-    whole-requires
-    returns-4)
+    (tie.spec settled64-requires returns settled64-requires-2 returns-2 nonzero-requires returns-3)

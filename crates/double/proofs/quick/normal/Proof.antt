@@ -23,24 +23,24 @@ sub-signed c = search needs
 sub-signed-2 : tie.Need-sub-signed-2
 sub-signed-2 c = search needs
 
-nearest-requires : tie.Need-nearest-requires
-nearest-requires c κs = search needs
+kept-requires : tie.Need-kept-requires
+kept-requires c κs = search needs
 
 add-signed : tie.Need-add-signed
 add-signed c =
     let g = c .before .before .top in
-    omega (arith, c .nearest .ensures, g .ensures .1 .1 .1 .0, closest-most (g .result .m) 10 (g .ensures .1 .0) (omega arith))
+    omega (arith, c .kept .ensures, g .ensures .1 .1 .1 .0, closest-most (g .result .m) 10 (g .ensures .1 .0) (omega arith))
 
 signed-requires : tie.Need-signed-requires
 signed-requires c κs =
     let g = c .before .before .top in
-    omega (arith, c .nearest .ensures, g .ensures .1 .1 .1 .0, closest-most (g .result .m) 10 (g .ensures .1 .0) (omega arith))
+    omega (arith, c .kept .ensures, g .ensures .1 .1 .1 .0, closest-most (g .result .m) 10 (g .ensures .1 .0) (omega arith))
 
 returns : tie.Need-returns
 returns c =
     let a = c .before .before .before .before .args in
     let g = c .before .before .before .top in
-    let n = c .before .nearest in
+    let n = c .before .kept in
     let t = g .result .k in
     let v = a .hi * 18446744073709551616 + a .lo in
     let e = 64 - t + (a .x - 2) in
@@ -59,7 +59,7 @@ normal-spec =
     top-requires
     sub-signed
     sub-signed-2
-    nearest-requires
+    kept-requires
     add-signed
     signed-requires
     returns)
