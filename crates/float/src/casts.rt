@@ -1,8 +1,7 @@
 // Casts, and a number's size.
 ghost use mathlib.Core.Path.{_≡_};
-ghost use mathlib.Core.Bool.{cond};
-ghost use Prim.Native.Nat.{_+_, _-_, _*_, _/_, _^_, _≤_, _<_};
-ghost use lib.Ieee.{binary32, ofBits, toUnsigned};
+ghost use Prim.Native.Nat.{_-_, _*_, _/_, _^_, _<_};
+ghost use lib.Ieee.{toUnsigned};
 ghost use Rattle.rounding.specs.Steps.{pattern, significand};
 ghost use Rattle.rounding.specs.Casts.{narrow, absolute};
 
@@ -23,17 +22,6 @@ fn rounded(m: u64) -> u64
     bits::nearest((1 << 52) + m % (1 << 52), 926 - x)
 }
 
-// The value of a sign and of a bit pattern without it.
-fn signed(s: bool, b: u64) -> f32
-    requires { ⌜ b ≤ 2139095040 ⌝ }
-    ensures { λ r. ⌜ r ≡ ofBits binary32 (cond s 2147483648 0 + b) ⌝ }
-{
-    if s {
-        return f32::from_bits((0x8000_0000 + b) as u32);
-    }
-    f32::from_bits(b as u32)
-}
-
 // x to an `f32` by one rounding, to nearest, ties to even.
 pub fn narrowed(x: f64) -> f32
     ensures { λ r. ⌜ r ≡ narrow x ⌝ }
@@ -42,7 +30,8 @@ pub fn narrowed(x: f64) -> f32
         return 0.0 / 0.0;
     }
     let w = f64::to_bits(x);
-    signed(SIGN <= w, bits::least(rounded(w % SIGN), 0x7f80_0000))
+    let size = bits::least(rounded(w % SIGN), 0x7f80_0000);
+    bits::from_bits32((w / SIGN * 0x8000_0000 + size) as u32)
 }
 
 // An `f64` holds every `f32`.

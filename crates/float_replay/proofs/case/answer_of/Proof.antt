@@ -1,0 +1,64 @@
+-- `float_replay::case::answer_of` meets its contract: each arm by what its calls ensure, none of which requires anything.
+-- Assumes nothing.
+use borrow.Author.Tests.{ne-eqb}
+use Rattle.float_replay.specs.Case.{answerOf}
+use Rattle.float_replay.proofs.case.answer_of.Statement.{statement}
+use Rattle.float_replay.proofs.case.answer_of.Tie as tie
+
+returns : tie.Need-returns
+unfolding answerOf
+returns c = rw (c .before .before .before .before .before .match .keys1) (cc)
+
+returns-2 : tie.Need-returns-2
+unfolding answerOf
+returns-2 c = rw (c .before .before .before .before .before .match .keys2) (cc)
+
+returns-3 : tie.Need-returns-3
+unfolding answerOf
+returns-3 c = rw (c .before .before .before .match .keys3) (cc)
+
+returns-4 : tie.Need-returns-4
+unfolding answerOf
+returns-4 c = rw (c .before .before .match .keys4) (cc)
+
+returns-5 : tie.Need-returns-5
+unfolding answerOf
+returns-5 c = rw (c .before .before .before .match .keys5) (cc)
+
+returns-6 : tie.Need-returns-6
+unfolding answerOf
+returns-6 c = rw (c .before .before .before .match .keys6) (cc)
+
+returns-7 : tie.Need-returns-7
+unfolding answerOf
+returns-7 c = rw (c .before .before .before .match .keys7) (cc)
+
+returns-8 : tie.Need-returns-8
+unfolding answerOf
+returns-8 c = rw (c .before .before .match .keys8) (cc)
+
+returns-9 : tie.Need-returns-9
+unfolding answerOf
+returns-9 c = rw (c .before .before .match .keys9) (cc)
+
+returns-10 : tie.Need-returns-10
+unfolding answerOf
+returns-10 c =
+    let r = c .match .rest in
+    simp
+    (ne-eqb _ 1 (r .0 .0 .0 .0 .0 .0 .0 .0 .1), ne-eqb _ 2 (r .0 .0 .0 .0 .0 .0 .0 .1), ne-eqb _ 3 (r .0 .0 .0 .0 .0 .0 .1), ne-eqb _ 4 (r .0 .0 .0 .0 .0 .1), ne-eqb _ 5 (r .0 .0 .0 .0 .1), ne-eqb _ 6 (r .0 .0 .0 .1), ne-eqb _ 7 (r .0 .0 .1), ne-eqb _ 8 (r .0 .1), ne-eqb _ 9 (r .1))
+
+pub answer-of-spec : {M : Type 1} → statement M
+answer-of-spec =
+    tie.close
+    (tie.spec
+    (λ c κs. tt) (λ c κs. tt) (λ c κs. tt) (λ c κs. tt) (λ c κs. tt)
+    (λ c κs. tt) (λ c κs. tt) (λ c κs. tt) (λ c κs. tt) (λ c κs. tt)
+    (λ c κs. tt) (λ c κs. tt) (λ c κs. tt)
+    (λ c κs. tt) (λ c κs. tt)
+    (λ c κs. tt) (λ c κs. tt) (λ c κs. tt)
+    (λ c κs. tt) (λ c κs. tt) (λ c κs. tt)
+    (λ c κs. tt) (λ c κs. tt) (λ c κs. tt)
+    (λ c κs. tt) (λ c κs. tt)
+    (λ c κs. tt) (λ c κs. tt)
+    returns returns-2 returns-3 returns-4 returns-5 returns-6 returns-7 returns-8 returns-9 returns-10)
