@@ -1,0 +1,74 @@
+//! Lists of cases: the one that is stored, and new ones.
+use super::{Case, Operation, published, singles, triples};
+use crate::{random::Random, shapes::specials};
+
+/// A case of an operation, of any of its families.
+pub fn drawn(operation: Operation, random: &mut Random) -> Case {
+    let format = operation.format();
+    let operands = match operation {
+        Operation::Fma32 | Operation::Fma64 => random.pick(&triples::FAMILIES)(format, random),
+        _ => [
+            random.pick(singles::families(operation))(format, random),
+            0,
+            0,
+        ],
+    };
+    Case {
+        operation,
+        operands,
+    }
+}
+
+/// How many cases of an operation the stored list has, at least.
+const fn stored_count(operation: Operation) -> usize {
+    match operation {
+        Operation::Fma32 | Operation::Fma64 => 20_500,
+        Operation::Narrowed => 20_000,
+        Operation::Truncated => 10_000,
+        _ => 2_000,
+    }
+}
+
+/// The stored list: the published vectors, what can be listed whole, cases of the families up to the
+/// count, a record of each number that no operation has, and a record that ends too soon.
+pub fn stored() -> Vec<u8> {
+    let mut random = Random::new(2);
+    let mut list: Vec<u8> = published::vectors()
+        .flat_map(|(case, _)| case.bytes())
+        .collect();
+    for operation in Operation::ALL {
+        let mut cases = listed(operation, &mut random);
+        while cases.len() < stored_count(operation) {
+            cases.push(drawn(operation, &mut random));
+        }
+        list.extend(cases.into_iter().flat_map(Case::bytes));
+    }
+    for number in [0, Operation::ALL.len() as u8 + 1, 128, u8::MAX] {
+        list.push(number);
+        list.extend([0x55; 24]);
+    }
+    list.extend(&[Operation::Fma32.number(); 24]);
+    list
+}
+
+/// The cases of an operation that can be listed whole: its special values, and for a fused
+/// multiply-add each three of them and each gap between the exponents of product and third.
+fn listed(operation: Operation, random: &mut Random) -> Vec<Case> {
+    let format = operation.format();
+    let values = specials(format);
+    let operands: Vec<[u64; 3]> = match operation {
+        Operation::Fma32 | Operation::Fma64 => {
+            let pairs = |a| values.iter().map(move |&b| (a, b));
+            let threes = |(a, b)| values.iter().map(move |&c| [a, b, c]);
+            let specials = values.iter().flat_map(|&a| pairs(a)).flat_map(threes);
+            let gaps = triples::gaps(format).map(|gap| triples::apart(format, gap, random));
+            specials.chain(gaps).collect()
+        }
+        _ => values.iter().map(|&a| [a, 0, 0]).collect(),
+    };
+    let case = |operands| Case {
+        operation,
+        operands,
+    };
+    operands.into_iter().map(case).collect()
+}

@@ -1,0 +1,13 @@
+//! The oracle: what the stages answer, from the Rust as it stands and from document 01.
+//!
+//! Each stage that has a replay program has a module here, with a model written from document 01, the
+//! Rust stage with worked numbers lent, and a generator of call lists; [`replay::named`] finds it.
+pub mod bits;
+pub mod common;
+pub mod compare;
+pub mod exact;
+pub mod float;
+pub mod power;
+pub mod random;
+pub mod replay;
+pub mod shapes;

@@ -1,0 +1,78 @@
+//! The oracle's commands. Lists and answers are the bytes of a replay program's standard input and
+//! output.
+use oracle::{
+    compare::compare,
+    random::Random,
+    replay::{self, Replay},
+};
+use std::{
+    io::{self, Read, Write},
+    process::ExitCode,
+    time::Instant,
+};
+
+const USAGE: &str = "\
+oracle make STAGE                          writes the list that is stored
+oracle answer STAGE                        reads a list and writes the answers
+oracle generate STAGE SEED CASES           writes a new list, of CASES of each kind
+oracle compare STAGE SEED CASES PROGRAM..  compares a replay program on new lists";
+
+fn main() -> ExitCode {
+    let words: Vec<String> = std::env::args().skip(1).collect();
+    match run(&words) {
+        Ok(()) => ExitCode::SUCCESS,
+        Err(reason) => {
+            eprintln!("oracle: {reason}");
+            ExitCode::FAILURE
+        }
+    }
+}
+
+fn run(words: &[String]) -> Result<(), String> {
+    let words: Vec<&str> = words.iter().map(String::as_str).collect();
+    match words[..] {
+        ["make", stage] => write(&named(stage)?.stored()),
+        ["answer", stage] => write(&named(stage)?.answers(&list()?)?),
+        ["generate", stage, seed, cases] => {
+            let mut random = Random::new(number(seed)?);
+            write(&named(stage)?.generated(&mut random, number(cases)?))
+        }
+        ["compare", stage, seed, cases, ref program @ ..] if !program.is_empty() => {
+            report(stage, number(seed)?, number(cases)?, program)
+        }
+        _ => Err(format!("it is called so:\n{USAGE}")),
+    }
+}
+
+fn report(stage: &str, seed: u64, cases: u64, program: &[&str]) -> Result<(), String> {
+    let began = Instant::now();
+    let program: Vec<String> = program.iter().map(|&word| word.into()).collect();
+    println!("{stage}: seed {seed}");
+    let counts = compare(named(stage)?, seed, cases, &program)?;
+    for (kind, count) in &counts {
+        println!("{count:>12} {kind}");
+    }
+    let all: u64 = counts.values().sum();
+    let seconds = began.elapsed().as_secs();
+    println!("{stage}: {all} calls compared, none differs ({seconds} s)");
+    Ok(())
+}
+
+fn named(stage: &str) -> Result<&'static dyn Replay, String> {
+    replay::named(stage).ok_or(format!("no stage {stage}"))
+}
+
+fn number(word: &str) -> Result<u64, String> {
+    word.parse().map_err(|_| format!("not a number: {word}"))
+}
+
+fn list() -> Result<Vec<u8>, String> {
+    let mut bytes = Vec::new();
+    let read = io::stdin().read_to_end(&mut bytes);
+    read.map(|_| bytes).map_err(|error| error.to_string())
+}
+
+fn write(bytes: &[u8]) -> Result<(), String> {
+    let written = io::stdout().write_all(bytes);
+    written.map_err(|error| error.to_string())
+}
