@@ -1,0 +1,235 @@
+/* The same steps as the library's float functions, in C: what they cost without proofs. */
+#include "rendering.h"
+
+#include <string.h>
+
+typedef unsigned __int128 uint128_t;
+
+static uint32_t bits32(float x)
+{
+    uint32_t n;
+    memcpy(&n, &x, sizeof n);
+    return n;
+}
+
+static uint64_t bits64(double x)
+{
+    uint64_t n;
+    memcpy(&n, &x, sizeof n);
+    return n;
+}
+
+static float from_bits32(uint32_t n)
+{
+    float x;
+    memcpy(&x, &n, sizeof x);
+    return x;
+}
+
+static double from_bits64(uint64_t n)
+{
+    double x;
+    memcpy(&x, &n, sizeof x);
+    return x;
+}
+
+static float settled32(float x)
+{
+    return x != x ? from_bits32(0x7fc00000) : x;
+}
+
+static double settled64(double x)
+{
+    return x != x ? from_bits64(0x7ff8000000000000) : x;
+}
+
+/* n / 2^i to the nearest whole number, a tie to the even one, for n below 2^63. */
+static uint64_t nearest(uint64_t n, unsigned i)
+{
+    if (i > 63)
+        return 0;
+    return i ? (n + ((uint64_t)1 << (i - 1)) - 1 + (n >> i & 1)) >> i : n;
+}
+
+static uint64_t least(uint64_t a, uint64_t b)
+{
+    return a < b ? a : b;
+}
+
+/* n / 2^s, cut, and odd where something was cut off. */
+static uint64_t sticky(uint64_t n, unsigned s)
+{
+    return s > 63 ? n != 0 : n >> s | ((n & (((uint64_t)1 << s) - 1)) != 0);
+}
+
+static uint128_t sticky128(uint128_t n, unsigned s)
+{
+    return s > 127 ? n != 0 : n >> s | ((n & (((uint128_t)1 << s) - 1)) != 0);
+}
+
+/* A finite number's size: m * 2^k units of the smallest. */
+struct part {
+    uint64_t m;
+    unsigned k;
+};
+
+static struct part part_of(uint64_t size, unsigned digits)
+{
+    uint64_t x = size >> digits, t = size & (((uint64_t)1 << digits) - 1);
+    return x ? (struct part){((uint64_t)1 << digits) + t, x - 1} : (struct part){t, 0};
+}
+
+/* ---- f32 */
+
+/* ±n * 2^e units of 2^-312, rounded; n is below 2^63. */
+static float made32(uint32_t sign, uint64_t n, unsigned e)
+{
+    if (n == 0)
+        return from_bits32(sign);
+    unsigned t = __builtin_clzll(n) - 1, k = e - t;
+    uint64_t m = n << t;
+    uint64_t size = k >= 124 ? ((uint64_t)(k - 124) << 23) + nearest(m, 39) : nearest(m, 163 - k);
+    return from_bits32(sign | (uint32_t)least(size, 0x7f800000));
+}
+
+static float whole32(float a, float b, float c)
+{
+    uint32_t i = bits32(a), j = bits32(b), l = bits32(c);
+    uint32_t s = (i ^ j) & 0x80000000, t = l & 0x80000000;
+    i &= 0x7fffffff, j &= 0x7fffffff, l &= 0x7fffffff;
+    if (i >= 0x7f800000 || j >= 0x7f800000)
+        return settled32(a * b + c);
+    if (l >= 0x7f800000)
+        return c;
+    struct part x = part_of(i, 23), y = part_of(j, 23), z = part_of(l, 23);
+    uint64_t u = x.m * y.m << 14, v = z.m << 38;
+    unsigned e = x.k + y.k, f = z.k + 125;
+    if (e < f)
+        u = sticky(u, f - e), e = f;
+    else
+        v = sticky(v, e - f);
+    if (s == t)
+        return made32(s, u + v, e);
+    return u < v ? made32(t, v - u, e) : v < u ? made32(s, u - v, e) : 0;
+}
+
+static float normal32(uint32_t sign, uint64_t n, unsigned x)
+{
+    unsigned t = __builtin_clzll(n);
+    return from_bits32(sign | (((x - 111 - t) << 23) + (uint32_t)nearest(n << (t - 1), 39)));
+}
+
+float rendered_fma32(float a, float b, float c)
+{
+    if (a == 0 || b == 0)
+        return settled32(a * b + c);
+    if (c == 0)
+        return settled32(a * b);
+    if (a != a || b != b || c != c)
+        return from_bits32(0x7fc00000);
+    uint32_t i = bits32(a), j = bits32(b), l = bits32(c);
+    uint32_t s = (i ^ j) & 0x80000000, t = l & 0x80000000;
+    unsigned x = i >> 23 & 255, y = j >> 23 & 255, z = l >> 23 & 255, d = z + 150 - (x + y);
+    if (z - 62 > 131 || y - 1 > 253 || x - 1 > 253 || d > 38)
+        return whole32(a, b, c);
+    uint64_t u = (uint64_t)((i & 0x7fffff) | 0x800000) * ((j & 0x7fffff) | 0x800000);
+    uint64_t v = (uint64_t)((l & 0x7fffff) | 0x800000) << d;
+    if (s == t)
+        return normal32(s, u + v, x + y);
+    return u < v ? normal32(t, v - u, x + y) : v < u ? normal32(s, u - v, x + y) : 0;
+}
+
+/* ---- f64 */
+
+/* n as one of 63 digits, odd where digits are lost, and how many were cut. */
+static struct part top(uint128_t n)
+{
+    uint64_t high = n >> 64;
+    unsigned s = high ? 65u - __builtin_clzll(high) : n >> 63 != 0;
+    return (struct part){sticky128(n, s), s};
+}
+
+/* ±n * 2^e units of 2^-2166, rounded; n is below 2^125. */
+static double made64(uint64_t sign, uint128_t n, unsigned e)
+{
+    if (n == 0)
+        return from_bits64(sign);
+    struct part g = top(n);
+    unsigned t = __builtin_clzll(g.m) - 1, k = e + g.k - t;
+    uint64_t m = g.m << t;
+    uint64_t size =
+        k >= 1082 ? ((uint64_t)(k - 1082) << 52) + nearest(m, 10) : nearest(m, 1092 - k);
+    return from_bits64(sign | least(size, 0x7ff0000000000000));
+}
+
+static double whole64(double a, double b, double c)
+{
+    uint64_t i = bits64(a), j = bits64(b), l = bits64(c), sign = (uint64_t)1 << 63;
+    uint64_t s = (i ^ j) & sign, t = l & sign;
+    i &= ~sign, j &= ~sign, l &= ~sign;
+    if (i >= 0x7ff0000000000000 || j >= 0x7ff0000000000000)
+        return settled64(a * b + c);
+    if (l >= 0x7ff0000000000000)
+        return c;
+    struct part x = part_of(i, 52), y = part_of(j, 52), z = part_of(l, 52);
+    uint128_t u = (uint128_t)x.m * y.m << 18, v = (uint128_t)z.m << 71;
+    unsigned e = x.k + y.k, f = z.k + 1021;
+    if (e < f)
+        u = sticky128(u, f - e), e = f;
+    else
+        v = sticky128(v, e - f);
+    if (s == t)
+        return made64(s, u + v, e);
+    return u < v ? made64(t, v - u, e) : v < u ? made64(s, u - v, e) : 0;
+}
+
+static double normal64(uint64_t sign, uint128_t n, unsigned x)
+{
+    uint64_t high = n >> 64;
+    unsigned t = __builtin_clzll(high) - 1;
+    uint64_t m = n << t >> 64, rest = (uint64_t)n << t;
+    return from_bits64(sign | (((uint64_t)(x - 1002 - t) << 52) + nearest(m | (rest != 0), 10)));
+}
+
+double rendered_fma64(double a, double b, double c)
+{
+    if (a == 0 || b == 0)
+        return settled64(a * b + c);
+    if (c == 0)
+        return settled64(a * b);
+    if (a != a || b != b || c != c)
+        return from_bits64(0x7ff8000000000000);
+    uint64_t i = bits64(a), j = bits64(b), l = bits64(c), sign = (uint64_t)1 << 63;
+    uint64_t hidden = (uint64_t)1 << 52, s = (i ^ j) & sign, t = l & sign;
+    unsigned x = i >> 52 & 2047, y = j >> 52 & 2047, z = l >> 52 & 2047, d = x + y - (z + 1003);
+    if (z - 62 > 1923 || y - 1 > 2045 || x - 1 > 2045 || d > 60)
+        return whole64(a, b, c);
+    uint128_t u = (uint128_t)((i & (hidden - 1)) | hidden) * ((j & (hidden - 1)) | hidden);
+    uint128_t v = (uint128_t)(sign | l << 11) << (61 - d);
+    uint128_t n = s == t ? u + v : u < v ? v - u : u - v;
+    if (n >> 64 == 0)
+        return whole64(a, b, c);
+    return normal64(u < v ? t : s, n, x + y);
+}
+
+/* ---- casts and size */
+
+float rendered_size32(float x)
+{
+    return x != x ? from_bits32(0x7fc00000) : from_bits32(bits32(x) & 0x7fffffff);
+}
+
+double rendered_size64(double x)
+{
+    return x != x ? from_bits64(0x7ff8000000000000) : from_bits64(bits64(x) & ~((uint64_t)1 << 63));
+}
+
+uint64_t rendered_truncated(float x)
+{
+    return !(x > -1) ? 0 : x < 0x1p64f ? (uint64_t)x : UINT64_MAX;
+}
+
+float rendered_narrowed(double x)
+{
+    return settled32((float)x);
+}

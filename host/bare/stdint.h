@@ -1,0 +1,4 @@
+/* What C's <stdint.h> has that this project uses, for a compiler that comes without C's headers. */
+typedef __UINT32_TYPE__ uint32_t;
+typedef __UINT64_TYPE__ uint64_t;
+#define UINT64_MAX __UINT64_MAX__

@@ -1,0 +1,4 @@
+/* What C's <string.h> has that this project uses, for a compiler that comes without C's headers. */
+void *memcpy(void *to, const void *from, __SIZE_TYPE__ bytes);
+int strcmp(const char *s, const char *t);
+int memcmp(const void *s, const void *t, __SIZE_TYPE__ bytes);

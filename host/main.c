@@ -1,0 +1,50 @@
+/* The host program: every check, a line for each group, and the count of those that failed. */
+#include <stdio.h>
+
+#include "checks.h"
+
+enum { SHOWN = 5 };
+
+static const char *name;
+static unsigned long checks, failed, checks_before, failed_before;
+
+static void close_group(void)
+{
+    if (name)
+        printf("%s: %lu checks, %lu failed\n", name, checks - checks_before, failed - failed_before);
+}
+
+void group(const char *next)
+{
+    close_group();
+    name = next;
+    checks_before = checks;
+    failed_before = failed;
+}
+
+void check(const char *call, uint64_t given, uint64_t expected, uint64_t a, uint64_t b, uint64_t c)
+{
+    checks++;
+    if (given == expected)
+        return;
+    failed++;
+    if (failed - failed_before <= SHOWN)
+        printf("  %s of %lx, %lx, %lx gives %lx, not %lx\n", call, a, b, c, given, expected);
+}
+
+uint64_t drawn(void)
+{
+    static uint64_t state = 0x9e3779b97f4a7c15;
+    state ^= state << 13;
+    state ^= state >> 7;
+    state ^= state << 17;
+    return state * 0x2545f4914f6cdd1d;
+}
+
+int main(void)
+{
+    float_checks();
+    close_group();
+    printf("host: %lu checks, %lu failed\n", checks, failed);
+    return checks == 0 || failed != 0;
+}
