@@ -23,12 +23,12 @@ static uint64_t drawn(void)
     return state * 0x2545f4914f6cdd1d;
 }
 
-/* A normal number from 2^from up to 2^(from + 8), of either sign. */
-static double normal(int from)
+/* A normal number from 2^from up to 2^(from + span), of either sign. */
+static double normal(int from, int span)
 {
     uint64_t n = drawn() & 0x800fffffffffffff;
     double x;
-    n += (uint64_t)(1023 + from + (int)(drawn() % 8)) << 52;
+    n += (uint64_t)(1023 + from + (int)(drawn() % span)) << 52;
     memcpy(&x, &n, sizeof x);
     return x;
 }
@@ -41,17 +41,17 @@ static void put(int place, int i, float x, double y)
     at64[place][i] = y;
 }
 
-enum row { RANDOM, C_ZERO, A_ZERO, ZEROS, SUBNORMAL, FAR, NOT_A_NUMBER, ROWS };
+enum row { RANDOM, SPREAD, C_ZERO, A_ZERO, ZEROS, SUBNORMAL, FAR, NOT_A_NUMBER, ROWS };
 
 static const char *const rows[ROWS] = {
-    "random", "c-zero", "a-zero", "zeros", "subnormal", "far", "nan",
+    "random", "spread", "c-zero", "a-zero", "zeros", "subnormal", "far", "nan",
 };
 
 static void prepare(enum row row)
 {
     for (int i = 0; i < PREPARED; i++) {
         for (int place = 0; place < 3; place++) {
-            double x = normal(-4);
+            double x = row == SPREAD ? normal(-16, 32) : normal(-4, 8);
             put(place, i, (float)x, x);
         }
         if (row == A_ZERO || row == ZEROS)
@@ -61,9 +61,9 @@ static void prepare(enum row row)
         if (row == C_ZERO || row == ZEROS)
             put(2, i, 0, 0);
         if (row == SUBNORMAL)
-            put(i % 3, i, (float)normal(-140), normal(-550) * 0x1p-500);
+            put(i % 3, i, (float)normal(-140, 8), normal(-550, 8) * 0x1p-500);
         if (row == FAR)
-            put(2, i, (float)normal(i % 2 ? 60 : -60), normal(i % 2 ? 300 : -300));
+            put(2, i, (float)normal(i % 2 ? 60 : -60, 8), normal(i % 2 ? 300 : -300, 8));
         if (row == NOT_A_NUMBER)
             put(i % 3, i, 0.0f / 0.0f, 0.0 / 0.0);
     }

@@ -26,14 +26,15 @@ END {
     heads = sprintf("%10s%10s%10s%5s", "library", "in C", "soft libm", "aim")
     printf "%-20s%10s%27s%10s\n", "instructions a call", "fma32", "", "fma64"
     printf "%-20s%s  %s\n", "", heads, heads
-    row("random normal", "random", 76, 106)
+    row("from 2^-4 to 2^4", "random", 76, 106)
+    row("from 2^-16 to 2^16", "spread", "", "")
     row("c = +0", "c-zero", 40, 40)
     row("a = +0", "a-zero", 40, 40)
     row("all three +0", "zeros", 40, 40)
     row("one subnormal", "subnormal", "", "")
     row("exponents far apart", "far", "", "")
     row("one NaN", "nan", "", "")
-    printf "\n%-20s%10s%10s\n", "random normal", "library", "in C"
+    printf "\n%-20s%10s%10s\n", "from 2^-4 to 2^4", "library", "in C"
     alone("size32")
     alone("size64")
     alone("truncated")

@@ -1,5 +1,8 @@
 //! Lists of calls: the one that is stored, and new ones.
-use super::{Action, Call, PARTS, Part};
+use super::{
+    Action, BYTES, Call, NAMES, PARTS, Part,
+    rules::{self, Numbers},
+};
 use crate::{
     exact::BINARY32,
     random::Random,
@@ -11,8 +14,8 @@ const BELOW_ONE: u64 = 0x3f7f_ffff;
 const ONE: u64 = 0x3f80_0000;
 const MINUS_ZERO: u64 = 0x8000_0000;
 
-/// How many steps of each part the stored list has, at least.
-const STORED_STEPS: u64 = 28_500;
+/// How many steps of each part the stored list has in runs.
+const STORED_STEPS: u64 = 25_500;
 
 /// The stored list: each special sample on each pair of special registers, then runs of calls, a record
 /// of each number that no call has, and one that ends too soon.
@@ -20,15 +23,14 @@ pub fn stored() -> Vec<u8> {
     let mut random = Random::new(3);
     let mut calls = listed(&mut random);
     for part in PARTS {
-        let listed = calls.iter().filter(|call| is_step(call, part)).count() as u64;
-        runs(part, STORED_STEPS - listed, &mut random, &mut calls);
+        runs(part, STORED_STEPS, &mut random, &mut calls);
     }
     let mut list: Vec<u8> = calls.into_iter().flat_map(Call::bytes).collect();
-    for number in [0, 9, u32::MAX] {
+    for number in [0, NAMES.len() as u32 + 1, u32::MAX] {
         list.extend(number.to_le_bytes());
-        list.extend([0x3f; 12]);
+        list.extend([0x3f; BYTES - 4]);
     }
-    list.extend([2; 15]);
+    list.extend([2; BYTES - 1]);
     list
 }
 
@@ -41,18 +43,6 @@ pub fn generated(random: &mut Random, steps: u64) -> Vec<u8> {
     calls.into_iter().flat_map(Call::bytes).collect()
 }
 
-fn is_step(call: &Call, part: Part) -> bool {
-    call.part == part && call.action == Action::Step
-}
-
-fn call(part: Part, action: Action, numbers: [u64; 3]) -> Call {
-    Call {
-        part,
-        action,
-        numbers,
-    }
-}
-
 /// A step on each state whose registers are special values, by each special sample.
 fn listed(random: &mut Random) -> Vec<Call> {
     let values = specials(BINARY32);
@@ -60,51 +50,53 @@ fn listed(random: &mut Random) -> Vec<Call> {
     for &x in &values {
         for &first in &values {
             let follower = [worked(random), worked(random), first];
-            calls.extend(handed_back(Part::Follower, follower, x));
+            calls.push(call(Part::Follower, Action::Step, follower, x));
             for &second in &values {
                 let blocker = [worked(random), first, second];
-                calls.extend(handed_back(Part::Blocker, blocker, x));
+                calls.push(call(Part::Blocker, Action::Step, blocker, x));
             }
         }
     }
     calls
 }
 
-/// A step on a state that a host hands back.
-fn handed_back(part: Part, numbers: [u64; 3], x: u64) -> [Call; 2] {
-    [
-        call(part, Action::Load, numbers),
-        call(part, Action::Step, [x, 0, 0]),
-    ]
+const fn call(part: Part, action: Action, state: Numbers, x: u64) -> Call {
+    Call {
+        part,
+        action,
+        state,
+        x,
+    }
 }
 
-/// Runs of calls with `steps` steps of one part in all.
+/// Runs of calls with `steps` steps of one part in all. A run begins with a making, or on numbers that
+/// a host hands back, and goes on from the state that each call leaves.
 fn runs(part: Part, steps: u64, random: &mut Random, calls: &mut Vec<Call>) {
     let mut left = steps;
     while left > 0 {
-        let state = state(part, random);
+        let mut state = state(part, random);
+        // A sample of the size of the level, or of y1.
+        let mut x = signed(BINARY32, state[2], random);
         if random.coin() {
-            calls.push(call(part, Action::Make, state));
-        } else {
-            // A sample of the size of the level, or equal to y1.
-            let x = signed(BINARY32, state[2], random);
-            calls.extend(handed_back(part, state, x));
-            left -= 1;
+            calls.push(call(part, Action::Make, state, 0));
+            state = rules::make(part, state).state;
         }
         let sample = random.pick(&SAMPLES);
-        let length = random.below(80).min(left);
+        let length = (1 + random.below(80)).min(left);
         for _ in 0..length {
-            calls.push(call(part, Action::Step, [sample(random), 0, 0]));
+            calls.push(call(part, Action::Step, state, x));
+            state = rules::step(part, state, x).state;
+            x = sample(random);
         }
         if random.below(4) == 0 {
-            calls.push(call(part, Action::Reset, [0; 3]));
+            calls.push(call(part, Action::Reset, state, 0));
         }
         left -= length;
     }
 }
 
 /// A state's numbers, one worked number in twelve not accepted.
-fn state(part: Part, random: &mut Random) -> [u64; 3] {
+fn state(part: Part, random: &mut Random) -> Numbers {
     let mut worked = || match random.below(12) {
         0 => not_accepted(random),
         _ => worked(random),

@@ -48,17 +48,17 @@ const fn done(value: u64, state: Numbers) -> Told {
     }
 }
 
-/// A refusal's value is +0.
-const fn refused(number: u64, state: Numbers) -> Told {
+/// A refusal's value is +0. The state that it leaves is told with its NaNs settled.
+fn refused(number: u64, state: Numbers) -> Told {
     Told {
         number,
         value: 0,
-        state,
+        state: state.map(|bits| settled(BINARY32, bits)),
     }
 }
 
 /// What a refused making gives: its c are 1.
-pub fn unmade(part: Part) -> Numbers {
+fn unmade(part: Part) -> Numbers {
     part.at_rest([ONE; 3])
 }
 
@@ -90,11 +90,6 @@ pub fn reset(part: Part, state: Numbers) -> Told {
     } else {
         refused(9, state)
     }
-}
-
-/// A host may hand back any numbers; only a later call looks at them.
-pub fn load(numbers: Numbers) -> Told {
-    done(0, numbers.map(|bits| settled(BINARY32, bits)))
 }
 
 /// r is the size of x; c is the attack number if r > level, else the release number; new level =

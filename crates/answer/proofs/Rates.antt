@@ -1,0 +1,87 @@
+-- A number from the lowest rate to the highest is whole exactly if it comes back from the whole number that it is cut to, which is no higher.
+-- Assumes nothing.
+use mathlib.Core.Path.{_≡_, refl, sym, ap, _∙_, subst}
+use mathlib.Core.Bool.{Bool, true, false, true≢false, _&&_, and-true, and-false}
+use Prim.Native.Nat.{ℕ, _+_, _-_, _*_, _/_, _%_, _^_, _≤_, _<_}
+use native.Mathlib.Nat.{le-trans, div-add-mod', div-le-of-le-mul, min-eq-left, mul-one, mul-right-comm, eq-of-mul-eq-mul-right}
+use native.Mathlib.Omega.{arith}
+use lib.IntN.{ℤ, pos}
+use lib.Dec.{T, eqb, le→leb, lit≤}
+use lib.Ieee.{Float, nan, inf, fin, binary32, up, down, eq, le, whole, ofInt, inFloat, toUnsigned}
+use lib.Ieee.Exact.{HasValue}
+use lib.Ieee.Fits.{and-l, and-r, down-pos}
+use lib.Ieee.Positive.{positive, num, den, own-value, values-of-le, between}
+use lib.Ieee.Back.{round-whole}
+use borrow.Author.Tests.{eqb-true, eqb-false, eq-eqb, ne-eqb, le-leb}
+use Rattle.answer.specs.Figures.{f32, lowestRate, highestRate}
+use Rattle.answer.specs.Checks.{inRange, isRate}
+
+-- N + r = M, both times D
+no-rest : (N M r D : ℕ) → N + r ≡ M → 0 < D → N * D ≡ M * D → r ≡ 0
+no-rest N M r D e h k = omega (arith, eq-of-mul-eq-mul-right D h N M k)
+
+-- y, whose value is the whole number that m * 2 ^ e is cut to, equals m * 2 ^ e exactly if nothing was cut off
+back-is-whole : (y : Float) (m : ℕ) (e : ℤ) → HasValue y false (m * up e / down e) 1 → eq y (fin false m e) ≡ eqb (m * up e % down e) 0
+unfolding eq
+back-is-whole nan m e v = absurd v
+back-is-whole (inf s) m e v = absurd v
+back-is-whole (fin true k d) m e v = absurd (true≢false (v .0))
+back-is-whole (fin false k d) m e v = go (eqb (m * up e % down e) 0) refl
+  where
+    n : ℕ
+    n = m * up e / down e
+
+    left : k * up d * down e ≡ n * down e * down d
+    left = ap (λ (z : ℕ). z * down e) (sym (mul-one (k * up d)) ∙ v .1) ∙ mul-right-comm n (down d) (down e)
+
+    go : (t : Bool) → eqb (m * up e % down e) 0 ≡ t → (eqb (k * up d * down e) (m * up e * down d) && true) ≡ t
+    go true h = rw (eq-eqb (k * up d * down e) (m * up e * down d) (left ∙ ap (λ (z : ℕ). z * down d) (omega (arith, div-add-mod' (m * up e) (down e), eqb-true (m * up e % down e) 0 h))))
+    go false h = rw (ne-eqb (k * up d * down e) (m * up e * down d) (λ g. eqb-false (m * up e % down e) 0 h (no-rest (n * down e) (m * up e) (m * up e % down e) (down d) (div-add-mod' (m * up e) (down e)) (down-pos d) (sym left ∙ g))))
+
+-- ---- of x above zero, up to the highest rate
+part-most : (x : Float) → T (positive x) → T (le x (f32 highestRate 1)) → num x / den x ≤ highestRate
+unfolding f32
+part-most x p h = div-le-of-le-mul (den x) (omega (arith, values-of-le x (f32 highestRate 1) (num x) (den x) highestRate 1 p tt (own-value x p) (refl, refl) h))
+
+cut-part : (x : Float) → T (positive x) → num x / den x ≤ highestRate → toUnsigned 64 x ≡ num x / den x
+unfolding toUnsigned
+cut-part nan p h = absurd p
+cut-part (inf s) p h = absurd p
+cut-part (fin true m e) p h = absurd p
+cut-part (fin false m e) p h = min-eq-left (le-trans h (lit≤ tt))
+
+back-part : (x : Float) → T (positive x) → num x / den x ≤ highestRate → eq (ofInt binary32 (pos (num x / den x))) x ≡ whole binary32 x
+unfolding ofInt whole
+back-part nan p h = absurd p
+back-part (inf s) p h = absurd p
+back-part (fin true m e) p h = absurd p
+back-part (fin false m e) p h =
+    back-is-whole (ofInt binary32 (pos (m * up e / down e))) m e (round-whole binary32 false (m * up e / down e) (le-trans h (lit≤ tt)))
+    ∙ simp (le-leb (m * up e / down e) (2 ^ 24) (le-trans h (lit≤ tt)), and-true)
+
+-- ---- of x from the lowest rate to the highest
+module _ (x : Float) (ranged : inRange (f32 lowestRate 1) (f32 highestRate 1) x ≡ true) where
+  above : T (le (f32 lowestRate 1) x)
+  above = and-l (le (f32 lowestRate 1) x) (le x (f32 highestRate 1)) (subst T (sym ranged) tt)
+
+  below : T (le x (f32 highestRate 1))
+  below = and-r (le (f32 lowestRate 1) x) (le x (f32 highestRate 1)) (subst T (sym ranged) tt)
+
+  is-positive : T (positive x)
+  unfolding f32
+  is-positive = between (f32 lowestRate 1) x (f32 highestRate 1) tt tt above below
+
+  part : num x / den x ≤ highestRate
+  part = part-most x is-positive below
+
+  pub cut-exact : T (inFloat binary32 (pos (toUnsigned 64 x)))
+  unfolding inFloat
+  cut-exact = rw (cut-part x is-positive part) (le→leb (num x / den x) (2 ^ 24) (le-trans part (lit≤ tt)))
+
+  pub comes-back : eq (ofInt binary32 (pos (toUnsigned 64 x))) x ≡ isRate x
+  unfolding isRate
+  comes-back = rw (cut-part x is-positive part, ranged) (back-part x is-positive part ∙ sym (and-true (whole binary32 x)))
+
+pub out-of-range : (x : Float) → inRange (f32 lowestRate 1) (f32 highestRate 1) x ≡ false → false ≡ isRate x
+unfolding isRate
+out-of-range x h = rw h (sym (and-false (whole binary32 x)))

@@ -1,0 +1,6 @@
+-- What every stage answers and checks.
+pub mod Figures
+pub mod Refusals
+pub mod Told
+pub mod Checks
+pub mod Names

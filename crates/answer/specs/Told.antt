@@ -1,0 +1,48 @@
+-- What a call tells its host, in document 01's numbers, whatever the stage. Definitions only.
+-- Assumes nothing.
+use mathlib.Core.Path.{_≡_}
+use Prim.Native.Nat.{ℕ}
+use mathlib.Core.Bool.{Bool, cond}
+use lib.Dec.{eqb}
+use lib.Ieee.{Float}
+use Rattle.answer.specs.Figures.{nought}
+use Rattle.answer.specs.Refusals as Refusals
+use Rattle.answer.specs.declared.Refusal.{Refusal}
+use Rattle.answer.specs.declared.Check.{Check}
+use Rattle.answer.specs.declared.Check.the-variants.{Accepted, Refused}
+
+-- the state after the call, the answer's number, its place, the count of samples aimed open, and the value read or stepped
+pub record Told (S : Type 0) : Type 0 where
+  pub state : S
+  pub number : ℕ
+  pub place : ℕ
+  pub count : ℕ
+  pub value : Float
+
+module _ {S : Type 0} (s : S) where
+  -- a refusal leaves s as it was; its open count is 0, its value +0
+  abbrev pub refused : Refusal → Told S
+  refused r = record { state = s; number = Refusals.number r; place = Refusals.place r; count = 0; value = nought }
+
+  abbrev pub doneWith : ℕ → Float → Told S
+  doneWith n x = record { state = s; number = 0; place = 0; count = n; value = x }
+
+  abbrev pub done : Told S
+  done = doneWith 0 nought
+
+-- a test, the answer where it fails, and what is done where it holds
+abbrev pub unless : {A : Type 0} → Bool → A → A → A
+unless test otherwise rest = cond test rest otherwise
+
+-- what a check refuses, and what is done where it accepts
+abbrev pub passing : {S : Type 0} → S → Check → Told S → Told S
+passing s Accepted rest = rest
+passing s (Refused r) rest = refused s r
+
+-- a where the call was done, b where it was refused
+abbrev pub whereDone : {S A : Type 0} → Told S → A → A → A
+whereDone t a b = cond (eqb (t .number) 0) a b
+
+-- a call on s that is refused leaves s
+pub record Unchanged {S : Type 0} (s : S) (t : Told S) : Type 0 where
+  pub kept : (t .number ≡ 0 → ⊥) → t .state ≡ s

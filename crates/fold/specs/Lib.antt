@@ -1,0 +1,2 @@
+-- A block is its samples one after the other.
+pub mod Fold

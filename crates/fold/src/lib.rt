@@ -1,0 +1,1 @@
+// Definitions and laws of a block; no function.

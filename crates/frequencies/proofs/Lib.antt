@@ -1,0 +1,2 @@
+-- A lookup in a table.
+pub mod Lookup
