@@ -101,23 +101,6 @@ pub fn exponent_of(m: u64, n: u64, k: u64) -> u64
     k
 }
 
-// Whether two factors' and a third term's exponents, as fields, are those that the quick ways take.
-// A third term that is a zero is the commonest that is not: it is tested first.
-pub fn usual(x: u64, y: u64, z: u64, ones: u64) -> bool
-    ensures { λ r. ⌜ r ≡ Steps.usual x y z ones ⌝ }
-{
-    if ones < 124 {
-        return false;
-    }
-    if ones - 124 < std::num::wrapping_sub_u64(z, 62) {
-        return false;
-    }
-    if ones - 2 < std::num::wrapping_sub_u64(y, 1) {
-        return false;
-    }
-    std::num::wrapping_sub_u64(x, 1) <= ones - 2
-}
-
 // x / 2 ^ s to an odd number: cut, and with an odd last digit where something was cut off.
 pub fn sticky(x: u64, s: u64) -> u64
     ensures { λ r. ⌜ r ≡ Steps.stick x s ⌝ }

@@ -14,7 +14,9 @@ ghost use Rattle.rounding.specs.Fma as Spec;
 
 const SIGN: u64 = 0x8000_0000_0000_0000;
 
-// a * b + c where none of the three is a zero, by whole numbers; it is right for zeros too.
+// a * b + c where none of the three is a zero, by whole numbers; it is right for zeros too. The
+// quick way takes normal factors, and a third term whose exponent lies 62 or more inside the range
+// and near the product's.
 fn nonzero(a: f64, b: f64, c: f64) -> f64
     ensures { λ r. ⌜ r ≡ Spec.fma binary64 a b c ⌝ }
 {
@@ -27,7 +29,13 @@ fn nonzero(a: f64, b: f64, c: f64) -> f64
     let x = i % SIGN >> 52;
     let y = j % SIGN >> 52;
     let z = k % SIGN >> 52;
-    if !bits::usual(x, y, z, 2047) {
+    if 1923 < std::num::wrapping_sub_u64(z, 62) {
+        return general::whole(a, b, c);
+    }
+    if 2045 < std::num::wrapping_sub_u64(y, 1) {
+        return general::whole(a, b, c);
+    }
+    if 2045 < std::num::wrapping_sub_u64(x, 1) {
         return general::whole(a, b, c);
     }
     let d = std::num::wrapping_sub_u64(x + y, z + 1003);

@@ -3,19 +3,17 @@ use mathlib.Core.Path.{_≡_, refl, sym, ap, _∙_, subst}
 use Prim.Native.Nat.{ℕ, zero, suc, _+_, _-_, _*_, _/_, _%_, _^_, _≤_, _<_, min}
 use native.Mathlib.Nat.{mul-comm, mul-assoc, mul-left-comm, mod-eq-of-lt, mod-mod-of-dvd, dvd-mul-right}
 use native.Mathlib.Omega.{arith}
-use mathlib.Core.Bool.{Bool, true, false, _&&_, cond}
-use borrow.Author.Tests.{le-leb, lt-ltb}
-use lib.Dec.{T, leb, ltb, eqb, eqb→eq, leb→le, le→leb, ltb→lt, lt→ltb, not-T}
+use mathlib.Core.Bool.{Bool, cond}
+use lib.Dec.{T, leb, eqb, eqb→eq, not-T}
 use lib.Pow.{pow-add, pow-pos}
 use lib.Ieee.{nan, inf, Format, binary32, binary64, prec, low, hid, ones, top, unlike, sum, round, odd, ofFields, ofBits}
 use lib.Ieee.Bits.{is-false}
-use lib.Ieee.Fits.{and-i, and-l, and-r}
 use lib.Ieee.Nearest.{closest}
 use lib.Ieee.Scale.{finite}
-use Rattle.rounding.specs.Steps.{Sticky, Near, usual, significand, pattern}
+use Rattle.rounding.specs.Steps.{Sticky, Near, significand, pattern}
 use Rattle.rounding.specs.Fma.{fma}
 use Rattle.rounding.proofs.Machine.{pattern-normal, pattern-small, significand-some}
-use Rattle.rounding.proofs.Values.{fma-at, bits-value, same-test}
+use Rattle.rounding.proofs.Values.{fma-at, bits-value}
 use Rattle.rounding.proofs.Terms.{round-of-sticky}
 
 -- ---- an exponent's field that is not all ones
@@ -112,54 +110,15 @@ module _ (f : Format) (s : Bool) (a m k d q : ℕ) (lo : 2 ^ 62 ≤ m) (hi : m <
 pub unwrapped : (r k x n : ℕ) → (r + k) % 18446744073709551616 ≡ x → r ≤ n → n + k < 18446744073709551616 → x ≡ r + k
 unwrapped r k x n e h l = sym e ∙ mod-eq-of-lt {n = r + k} {m = 18446744073709551616} (omega arith)
 
--- ---- what `usual` says
-module _ (x y z o : ℕ) (h : T (usual x y z o)) where
-  pub usual-facts : (1 ≤ x) × ((x < o) × ((1 ≤ y) × ((y < o) × ((62 ≤ z) × (z + 62 ≤ o)))))
-  unfolding usual
-  usual-facts =
-      let r1 = and-r (leb 1 x) (ltb x o && (leb 1 y && (ltb y o && (leb 62 z && leb (z + 62) o)))) h in
-      let r2 = and-r (ltb x o) (leb 1 y && (ltb y o && (leb 62 z && leb (z + 62) o))) r1 in
-      let r3 = and-r (leb 1 y) (ltb y o && (leb 62 z && leb (z + 62) o)) r2 in
-      let r4 = and-r (ltb y o) (leb 62 z && leb (z + 62) o) r3 in (
-        leb→le 1 x (and-l (leb 1 x) (ltb x o && (leb 1 y && (ltb y o && (leb 62 z && leb (z + 62) o)))) h),
-        (
-          ltb→lt x o (and-l (ltb x o) (leb 1 y && (ltb y o && (leb 62 z && leb (z + 62) o))) r1),
-          (
-            leb→le 1 y (and-l (leb 1 y) (ltb y o && (leb 62 z && leb (z + 62) o)) r2),
-            (
-              ltb→lt y o (and-l (ltb y o) (leb 62 z && leb (z + 62) o) r3),
-              (leb→le 62 z (and-l (leb 62 z) (leb (z + 62) o) r4), leb→le (z + 62) o (and-r (leb 62 z) (leb (z + 62) o) r4)),
-            ),
-          ),
-        ),
-      )
-
-pub usual-none : (x y z o : ℕ) → (1 ≤ x → x < o → 1 ≤ y → y < o → 62 ≤ z → z + 62 ≤ o → ⊥) → false ≡ usual x y z o
-usual-none x y z o n =
-    sym (is-false (usual x y z o) (not-T (usual x y z o) (λ (h : T (usual x y z o)). let f = usual-facts x y z o h in n (f .0) (f .1 .0) (f .1 .1 .0) (f .1 .1 .1 .0) (f .1 .1 .1 .1 .0) (f .1 .1 .1 .1 .1))))
-
--- r is x - 1, wrapped
-pub usual-last : (x y z o r : ℕ) → 1 ≤ y → y < o → 62 ≤ z → z + 62 ≤ o → o < 2 ^ 64 → r < 2 ^ 64 → (r + 1) % 2 ^ 64 ≡ x → leb r (o - 2) ≡ usual x y z o
-unfolding usual
-usual-last x y z o r a b c d e f g = rw (le-leb 1 y a, lt-ltb y o b, le-leb 62 z c, le-leb (z + 62) o d) last
-  where
-    to : r ≤ o - 2 → (1 ≤ x) × (x < o)
-    to k = (omega arith, omega arith)
-
-    from : 1 ≤ x → x < o → r ≤ o - 2
-    from k l = omega arith
-
-    last : leb r (o - 2) ≡ leb 1 x && (ltb x o && true)
-    last =
-        same-test (leb r (o - 2)) (leb 1 x && (ltb x o && true))
-        (λ (t : T (leb r (o - 2))). let w = to (leb→le r (o - 2) t) in and-i (leb 1 x) (ltb x o && true) (le→leb 1 x (w .0)) (and-i (ltb x o) true (lt→ltb x o (w .1)) tt))
-        (λ (t : T (leb 1 x && (ltb x o && true))). le→leb r (o - 2) (from (leb→le 1 x (and-l (leb 1 x) (ltb x o && true) t)) (ltb→lt x o (and-l (ltb x o) true (and-r (leb 1 x) (ltb x o && true) t)))))
-
-pub near-of : (f : Format) (a b c g : ℕ) → T (usual (a % top f / hid f) (b % top f / hid f) (c % top f / hid f) (ones f))
-    → c % top f / hid f + (low f + 1) ≡ g + (a % top f / hid f + b % top f / hid f) → Near f a b c g
-near-of f a b c g h e =
-    let u = usual-facts (a % top f / hid f) (b % top f / hid f) (c % top f / hid f) (ones f) h in
-    record { a-some = u .0; a-most = u .1 .0; b-some = u .1 .1 .0; b-most = u .1 .1 .1 .0; c-some = u .1 .1 .1 .1 .0; c-most = u .1 .1 .1 .1 .1; apart = e }
+-- the three tests of the quick way, each on a field less its least value, wrapped, and the gap that they leave
+module _ (f : Format) (a b c g : ℕ) (few : ones f < 2 ^ 63) where
+  pub near-of : (p q r : ℕ) → (p + 1) % 18446744073709551616 ≡ a % top f / hid f → p + 2 ≤ ones f → (q + 1) % 18446744073709551616 ≡ b % top f / hid f → q + 2 ≤ ones f
+      → (r + 62) % 18446744073709551616 ≡ c % top f / hid f → r + 124 ≤ ones f → c % top f / hid f + (low f + 1) ≡ g + (a % top f / hid f + b % top f / hid f) → Near f a b c g
+  near-of p q r x p-le y q-le z r-le e =
+      let x-is = unwrapped p 1 (a % top f / hid f) (ones f) x (omega arith) (omega arith) in
+      let y-is = unwrapped q 1 (b % top f / hid f) (ones f) y (omega arith) (omega arith) in
+      let z-is = unwrapped r 62 (c % top f / hid f) (ones f) z (omega arith) (omega arith) in
+      record { a-some = omega (arith, x-is); a-most = omega (arith, x-is); b-some = omega (arith, y-is); b-most = omega (arith, y-is); c-some = omega (arith, z-is); c-most = omega (arith, z-is); apart = e }
 
 -- ---- a normal value's significand
 pub significand-normal : (f : Format) (a : ℕ) → 1 ≤ a % top f / hid f → hid f + a % hid f ≡ significand (hid f) (a % top f)

@@ -2,8 +2,8 @@
 use mathlib.Core.Path.{_≡_}
 use mathlib.Core.Logic.{_⊎_}
 use Prim.Native.Nat.{ℕ, _+_, _-_, _*_, _/_, _%_, _^_, _≤_, _<_, max}
-use mathlib.Core.Bool.{Bool, _&&_, cond}
-use lib.Dec.{eqb, leb, ltb}
+use mathlib.Core.Bool.{cond}
+use lib.Dec.{eqb}
 use lib.Ieee.{Format, low, hid, ones, top}
 use lib.Ieee.Nearest.{closest}
 
@@ -31,11 +31,7 @@ exponent p k = cond (eqb p 0) 0 k
 unfoldable pub stuck : ℕ → ℕ → ℕ
 stuck m rest = cond (eqb rest 0) m (m + (1 - m % 2))
 
--- The exponents' fields x and y of two factors are those of normal values, and the third term's, z, is 62 or more inside the range, where all ones is the field of an infinity
-unfoldable pub usual : ℕ → ℕ → ℕ → ℕ → Bool
-usual x y z all-ones = leb 1 x && (ltb x all-ones && (leb 1 y && (ltb y all-ones && (leb 62 z && leb (z + 62) all-ones))))
-
--- Three bit patterns with such exponents, the third term's last digit lying g places above the product's last, so that both terms are whole numbers of the product's last place
+-- Three bit patterns: the factors' exponents are those of normal values, the third term's lies 62 or more inside the range, and its last digit g places above the product's last, so that both terms are whole numbers of the product's last place
 pub record Near (f : Format) (a b c g : ℕ) : Type 0 where
   pub a-some : 1 ≤ a % top f / hid f
   pub a-most : a % top f / hid f < ones f

@@ -12,8 +12,23 @@ ghost use Rattle.rounding.specs.Fma as Spec;
 
 const SIGN: u64 = 0x8000_0000;
 
-// a * b + c where none of the three is a zero, by whole numbers; it is right for zeros too.
-fn nonzero(a: f32, b: f32, c: f32) -> f32
+// a * b + c outside the quick way. A zero needs no whole numbers: without a factor the product is a
+// zero exactly, and without a third term one product is the one rounding.
+fn outside(a: f32, b: f32, c: f32) -> f32
+    ensures { λ r. ⌜ r ≡ Spec.fma binary32 a b c ⌝ }
+{
+    if a == 0.0 || b == 0.0 {
+        return bits::settled32(a * b + c);
+    }
+    if c == 0.0 {
+        return bits::settled32(a * b);
+    }
+    general::whole(a, b, c)
+}
+
+// The quick way takes normal factors, and a third term whose exponent lies 62 or more inside the
+// range and near the product's.
+pub fn fma(a: f32, b: f32, c: f32) -> f32
     ensures { λ r. ⌜ r ≡ Spec.fma binary32 a b c ⌝ }
 {
     if a != a || b != b || c != c {
@@ -25,26 +40,18 @@ fn nonzero(a: f32, b: f32, c: f32) -> f32
     let x = i % SIGN >> 23;
     let y = j % SIGN >> 23;
     let z = k % SIGN >> 23;
-    if !bits::usual(x, y, z, 255) {
-        return general::whole(a, b, c);
+    if 131 < std::num::wrapping_sub_u64(z, 62) {
+        return outside(a, b, c);
+    }
+    if 253 < std::num::wrapping_sub_u64(y, 1) {
+        return outside(a, b, c);
+    }
+    if 253 < std::num::wrapping_sub_u64(x, 1) {
+        return outside(a, b, c);
     }
     let d = std::num::wrapping_sub_u64(z + 150, x + y);
     if d <= 38 {
         return quick::close(i, j, k, d);
     }
     general::whole(a, b, c)
-}
-
-// A zero needs no whole numbers: without a factor the product is a zero exactly, and without a
-// third term one product is the one rounding. Silence is zeros, so they are tested first.
-pub fn fma(a: f32, b: f32, c: f32) -> f32
-    ensures { λ r. ⌜ r ≡ Spec.fma binary32 a b c ⌝ }
-{
-    if a == 0.0 || b == 0.0 {
-        return bits::settled32(a * b + c);
-    }
-    if c == 0.0 {
-        return bits::settled32(a * b);
-    }
-    nonzero(a, b, c)
 }

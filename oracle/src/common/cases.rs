@@ -1,7 +1,7 @@
 //! Lists of calls: the one that is stored, and new ones.
 use super::{
     Action, BYTES, Call, NAMES, PARTS, Part,
-    rules::{self, Numbers},
+    rules::{self, MINUS_ZERO, Numbers, ONE},
 };
 use crate::{
     exact::BINARY32,
@@ -10,9 +10,7 @@ use crate::{
 };
 
 /// The largest number below 1.
-const BELOW_ONE: u64 = 0x3f7f_ffff;
-const ONE: u64 = 0x3f80_0000;
-const MINUS_ZERO: u64 = 0x8000_0000;
+const BELOW_ONE: u64 = ONE - 1;
 
 /// How many steps of each part the stored list has in runs.
 const STORED_STEPS: u64 = 25_500;

@@ -40,13 +40,14 @@ struct Call {
 const BYTES: usize = 20;
 const PARTS: [Part; 2] = [Part::Follower, Part::Blocker];
 const ACTIONS: [Action; 3] = [Action::Make, Action::Step, Action::Reset];
-const NAMES: [&str; 6] = [
-    "follower made",
-    "follower stepped",
-    "follower reset",
-    "blocker made",
-    "blocker stepped",
-    "blocker reset",
+/// The calls' names, for one that is done and for one that is refused.
+const NAMES: [[&str; 2]; 6] = [
+    ["follower made", "follower not made"],
+    ["follower stepped", "follower not stepped"],
+    ["follower reset", "follower not reset"],
+    ["blocker made", "blocker not made"],
+    ["blocker stepped", "blocker not stepped"],
+    ["blocker reset", "blocker not reset"],
 ];
 
 impl Call {
@@ -72,8 +73,13 @@ impl Call {
         })
     }
 
-    const fn name(self) -> &'static str {
-        NAMES[self.index()]
+    fn name(self) -> &'static str {
+        let [done, refused] = NAMES[self.index()];
+        if self.part.accepts(self.state) {
+            done
+        } else {
+            refused
+        }
     }
 
     /// What document 01 tells of the call. A step that is done must be the Rust's too.

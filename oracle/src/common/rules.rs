@@ -12,8 +12,8 @@ pub struct Told {
     pub state: Numbers,
 }
 
-const ONE: u64 = 0x3f80_0000;
-const MINUS_ZERO: u64 = 0x8000_0000;
+pub const ONE: u64 = 0x3f80_0000;
+pub const MINUS_ZERO: u64 = 0x8000_0000;
 
 /// A worked number from 0 up to but excluding 1; -0 is 0.
 const fn is_accepted(c: u64) -> bool {
@@ -29,7 +29,8 @@ impl Part {
         }
     }
 
-    fn accepts(self, state: Numbers) -> bool {
+    /// Whether each worked number is accepted. No other test is made of a call.
+    pub fn accepts(self, state: Numbers) -> bool {
         state[..self.worked()].iter().all(|&c| is_accepted(c))
     }
 

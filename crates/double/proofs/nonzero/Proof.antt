@@ -8,7 +8,7 @@ use lib.Dec.{T}
 use lib.Ieee.{binary64, fits, toBits}
 use Rattle.rounding.specs.Steps.{Near}
 use Rattle.rounding.proofs.Nan.{is-nan, not-nan, fma-nan, quotient}
-use Rattle.rounding.proofs.Terms.{fma-of-patterns, not-false}
+use Rattle.rounding.proofs.Terms.{fma-of-patterns}
 use Rattle.rounding.proofs.Nearby.{near-of, unwrapped}
 use borrow.Author.Needs.{needs}
 use Rattle.double.proofs.nonzero.Statement.{statement}
@@ -41,8 +41,8 @@ float-to-bits-j c = not-nan (c .before .before .before .args .b) (c .before .if2
 float-to-bits-k : tie.Need-float-to-bits-k
 float-to-bits-k c = not-nan (c .before .before .before .args .c) (c .if3 .left)
 
-usual-requires : tie.Need-usual-requires
-usual-requires c κs = search needs
+wrapping-sub-u64-requires : tie.Need-wrapping-sub-u64-requires
+wrapping-sub-u64-requires c κs = search needs
 
 whole-requires : tie.Need-whole-requires
 whole-requires c κs = search needs
@@ -50,35 +50,56 @@ whole-requires c κs = search needs
 returns-2 : tie.Need-returns-2
 returns-2 c = search needs
 
+wrapping-sub-u64-requires-2 : tie.Need-wrapping-sub-u64-requires-2
+wrapping-sub-u64-requires-2 c κs = search needs
+
+whole-requires-2 : tie.Need-whole-requires-2
+whole-requires-2 c κs = search needs
+
+returns-3 : tie.Need-returns-3
+returns-3 c = search needs
+
+wrapping-sub-u64-requires-3 : tie.Need-wrapping-sub-u64-requires-3
+wrapping-sub-u64-requires-3 c κs = search needs
+
+whole-requires-3 : tie.Need-whole-requires-3
+whole-requires-3 c κs = search needs
+
+returns-4 : tie.Need-returns-4
+returns-4 c = search needs
+
 add-wrapping-sub-u64 : tie.Need-add-wrapping-sub-u64
 add-wrapping-sub-u64 c = search needs
 
 add-wrapping-sub-u64-2 : tie.Need-add-wrapping-sub-u64-2
 add-wrapping-sub-u64-2 c = search needs
 
-wrapping-sub-u64-requires : tie.Need-wrapping-sub-u64-requires
-wrapping-sub-u64-requires c κs = search needs
+wrapping-sub-u64-requires-4 : tie.Need-wrapping-sub-u64-requires-4
+wrapping-sub-u64-requires-4 c κs = search needs
 
 close-requires : tie.Need-close-requires
 close-requires c κs =
-    let s = c .before .before .before .before .before .before .before in
+    let s = c .before .before .before .before .before .before .before .before .before .before .before in
     let a = s .args in
-    let d = c .before .wrapping-sub-u64 in
-    let u = c .before .before .before .usual in
-    let few = c .if5 .taken in
+    let z = c .before .before .before .before .before .before .before .wrapping-sub-u64 in
+    let y = c .before .before .before .before .before .wrapping-sub-u642 in
+    let x = c .before .before .before .wrapping-sub-u643 in
+    let d = c .before .wrapping-sub-u644 in
+    let few = c .if7 .taken in
     let apart = unwrapped (d .result) _ _ 60 (d .ensures) few (omega arith) in (
-      near-of binary64 (toBits binary64 (a .a)) (toBits binary64 (a .b)) (toBits binary64 (a .c)) (72 - d .result) (not-false (u .result) _ (u .ensures) (c .before .before .if4 .left)) (omega arith),
+      near-of binary64 (toBits binary64 (a .a)) (toBits binary64 (a .b)) (toBits binary64 (a .c)) (72 - d .result) (omega arith) (x .result) (y .result) (z .result)
+          (x .ensures) (omega (arith, c .before .before .if6 .left)) (y .ensures) (omega (arith, c .before .before .before .before .if5 .left)) (z .ensures) (omega (arith, c .before .before .before .before .before .before .if4 .left)) (omega arith),
       (few, sym (fma-of-patterns binary64 (a .a) (a .b) (a .c) _ (held-a s) (held-b s) (held-c s) refl)),
     )
 
-returns-3 : tie.Need-returns-3
-returns-3 c = search needs
+returns-5 : tie.Need-returns-5
+returns-5 c = search needs
 
-whole-requires-2 : tie.Need-whole-requires-2
-whole-requires-2 c κs = search needs
+whole-requires-4 : tie.Need-whole-requires-4
+whole-requires-4 c κs = search needs
 
-returns-4 : tie.Need-returns-4
-returns-4 c = search needs
+returns-6 : tie.Need-returns-6
+returns-6 c = search needs
 
 pub nonzero-spec : {M : Type 1} → statement M
 nonzero-spec =
@@ -88,13 +109,19 @@ nonzero-spec =
     float-to-bits-i
     float-to-bits-j
     float-to-bits-k
-    usual-requires
+    wrapping-sub-u64-requires
     whole-requires
     returns-2
+    wrapping-sub-u64-requires-2
+    whole-requires-2
+    returns-3
+    wrapping-sub-u64-requires-3
+    whole-requires-3
+    returns-4
     add-wrapping-sub-u64
     add-wrapping-sub-u64-2
-    wrapping-sub-u64-requires
+    wrapping-sub-u64-requires-4
     close-requires
-    returns-3
-    whole-requires-2
-    returns-4)
+    returns-5
+    whole-requires-4
+    returns-6)

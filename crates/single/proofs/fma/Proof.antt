@@ -1,37 +1,141 @@
 -- `single::fma` meets its contract. Assumes nothing.
-use mathlib.Core.Path.{_∙_}
+use mathlib.Core.Path.{_≡_, refl, sym, _∙_, subst}
 use mathlib.Core.Logic.{inl, inr, ⊎-elim}
-use lib.Ieee.{binary32}
-use Rattle.rounding.proofs.Zero.{is-zero, zero-factor, zero-third}
+use Prim.Native.Nat.{_+_}
+use native.Mathlib.Omega.{arith}
+use mathlib.Core.Bool.{not}
+use lib.Dec.{T}
+use lib.Ieee.{binary32, fits, toBits}
+use lib.Ieee.Bits.{toBits-lt}
+use Rattle.rounding.specs.Steps.{Near}
+use Rattle.rounding.proofs.Nan.{is-nan, not-nan, fma-nan, quotient}
+use Rattle.rounding.proofs.Terms.{fma-of-patterns}
+use Rattle.rounding.proofs.Nearby.{near-of, unwrapped}
 use borrow.Author.Needs.{needs}
 use Rattle.single.proofs.fma.Statement.{statement}
 use Rattle.single.proofs.fma.Tie as tie
 
-settled32-requires : tie.Need-settled32-requires
-settled32-requires c κs = search needs
+-- what owning the parameters tells: the format holds them
+held-a : (c : tie.Start) → T (fits binary32 (c .args .a))
+held-a c = subst T (sym (c .good .0 .1)) tt
+
+held-b : (c : tie.Start) → T (fits binary32 (c .args .b))
+held-b c = subst T (sym (c .good .1 .0 .1)) tt
+
+held-c : (c : tie.Start) → T (fits binary32 (c .args .c))
+held-c c = subst T (sym (c .good .1 .1 .0 .1)) tt
 
 returns : tie.Need-returns
 returns c =
-    let a = c .before .before .args in
-    c .settled32 .ensures
-    ∙ zero-factor binary32 (a .a) (a .b) (a .c) (⊎-elim (λ t. inl (is-zero binary32 (a .a) (t .taken))) (λ t. inr (is-zero binary32 (a .b) (t .1 .taken))) (c .before .if1 .came))
+    let a = c .before .args in
+    quotient binary32
+    ∙ sym
+    (fma-nan binary32 (a .a) (a .b) (a .c)
+    (⊎-elim (λ t. inl (is-nan (a .a) (t .taken))) (λ w. ⊎-elim (λ t. inr (inl (is-nan (a .b) (t .1 .taken)))) (λ t. inr (inr (is-nan (a .c) (t .2 .taken)))) w) (c .if1 .came)))
 
-settled32-requires-2 : tie.Need-settled32-requires-2
-settled32-requires-2 c κs = search needs
+float-to-bits-i : tie.Need-float-to-bits-i
+float-to-bits-i c = not-nan (c .before .before .before .args .a) (c .before .before .if1 .left)
+
+cast-i : tie.Need-cast-i
+cast-i c = omega (arith, toBits-lt binary32 (c .before .before .before .args .a) (held-a (c .before .before .before)))
+
+float-to-bits-j : tie.Need-float-to-bits-j
+float-to-bits-j c = not-nan (c .before .before .before .args .b) (c .before .if2 .left)
+
+cast-j : tie.Need-cast-j
+cast-j c = omega (arith, toBits-lt binary32 (c .before .before .before .args .b) (held-b (c .before .before .before)))
+
+float-to-bits-k : tie.Need-float-to-bits-k
+float-to-bits-k c = not-nan (c .before .before .before .args .c) (c .if3 .left)
+
+cast-k : tie.Need-cast-k
+cast-k c = omega (arith, toBits-lt binary32 (c .before .before .before .args .c) (held-c (c .before .before .before)))
+
+wrapping-sub-u64-requires : tie.Need-wrapping-sub-u64-requires
+wrapping-sub-u64-requires c κs = search needs
+
+outside-requires : tie.Need-outside-requires
+outside-requires c κs = search needs
 
 returns-2 : tie.Need-returns-2
-returns-2 c =
-    let a = c .before .before .before .before .args in
-    c .settled322 .ensures
-    ∙ zero-third binary32 (a .a) (a .b) (a .c) (c .before .before .before .if1 .left) (c .before .before .if2 .left) (is-zero binary32 (a .c) (c .before .if3 .taken))
+returns-2 c = search needs
 
-nonzero-requires : tie.Need-nonzero-requires
-nonzero-requires c κs = search needs
+wrapping-sub-u64-requires-2 : tie.Need-wrapping-sub-u64-requires-2
+wrapping-sub-u64-requires-2 c κs = search needs
+
+outside-requires-2 : tie.Need-outside-requires-2
+outside-requires-2 c κs = search needs
 
 returns-3 : tie.Need-returns-3
 returns-3 c = search needs
 
+wrapping-sub-u64-requires-3 : tie.Need-wrapping-sub-u64-requires-3
+wrapping-sub-u64-requires-3 c κs = search needs
+
+outside-requires-3 : tie.Need-outside-requires-3
+outside-requires-3 c κs = search needs
+
+returns-4 : tie.Need-returns-4
+returns-4 c = search needs
+
+add-wrapping-sub-u64 : tie.Need-add-wrapping-sub-u64
+add-wrapping-sub-u64 c = search needs
+
+add-wrapping-sub-u64-2 : tie.Need-add-wrapping-sub-u64-2
+add-wrapping-sub-u64-2 c = search needs
+
+wrapping-sub-u64-requires-4 : tie.Need-wrapping-sub-u64-requires-4
+wrapping-sub-u64-requires-4 c κs = search needs
+
+close-requires : tie.Need-close-requires
+close-requires c κs =
+    let a = c .before .before .before .before .before .before .before .before .before .before .before .args in
+    let z = c .before .before .before .before .before .before .before .wrapping-sub-u64 in
+    let y = c .before .before .before .before .before .wrapping-sub-u642 in
+    let x = c .before .before .before .wrapping-sub-u643 in
+    let d = c .before .wrapping-sub-u644 in (
+      near-of binary32 (toBits binary32 (a .a)) (toBits binary32 (a .b)) (toBits binary32 (a .c)) (d .result) (omega arith) (x .result) (y .result) (z .result)
+          (x .ensures) (omega (arith, c .before .before .if6 .left)) (y .ensures) (omega (arith, c .before .before .before .before .if5 .left)) (z .ensures) (omega (arith, c .before .before .before .before .before .before .if4 .left))
+          (unwrapped (d .result) _ _ 38 (d .ensures) (c .if7 .taken) (omega arith)),
+      c .if7 .taken,
+    )
+
+returns-5 : tie.Need-returns-5
+returns-5 c =
+    let s = c .before .before .before .before .before .before .before .before .before .before .before .before in
+    let a = s .args in
+    fma-of-patterns binary32 (a .a) (a .b) (a .c) (c .close .result) (held-a s) (held-b s) (held-c s) (c .close .ensures)
+
+whole-requires : tie.Need-whole-requires
+whole-requires c κs = search needs
+
+returns-6 : tie.Need-returns-6
+returns-6 c = search needs
+
 pub fma-spec : {M : Type 1} → statement M
 fma-spec =
     tie.close
-    (tie.spec settled32-requires returns settled32-requires-2 returns-2 nonzero-requires returns-3)
+    (tie.spec
+    returns
+    float-to-bits-i
+    cast-i
+    float-to-bits-j
+    cast-j
+    float-to-bits-k
+    cast-k
+    wrapping-sub-u64-requires
+    outside-requires
+    returns-2
+    wrapping-sub-u64-requires-2
+    outside-requires-2
+    returns-3
+    wrapping-sub-u64-requires-3
+    outside-requires-3
+    returns-4
+    add-wrapping-sub-u64
+    add-wrapping-sub-u64-2
+    wrapping-sub-u64-requires-4
+    close-requires
+    returns-5
+    whole-requires
+    returns-6)
