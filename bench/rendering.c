@@ -119,18 +119,25 @@ static float normal32(uint32_t sign, uint64_t n, unsigned x)
     return from_bits32(sign | (((x - 111 - t) << 23) + (uint32_t)nearest(n << (t - 1), 39)));
 }
 
-float rendered_fma32(float a, float b, float c)
+static float outside32(float a, float b, float c)
 {
     if (a == 0 || b == 0)
         return settled32(a * b + c);
     if (c == 0)
         return settled32(a * b);
+    return whole32(a, b, c);
+}
+
+float rendered_fma32(float a, float b, float c)
+{
     if (a != a || b != b || c != c)
         return from_bits32(0x7fc00000);
     uint32_t i = bits32(a), j = bits32(b), l = bits32(c);
     uint32_t s = (i ^ j) & 0x80000000, t = l & 0x80000000;
     unsigned x = i >> 23 & 255, y = j >> 23 & 255, z = l >> 23 & 255, d = z + 150 - (x + y);
-    if (z - 62 > 131 || y - 1 > 253 || x - 1 > 253 || d > 38)
+    if (z - 62 > 131 || y - 1 > 253 || x - 1 > 253)
+        return outside32(a, b, c);
+    if (d > 38)
         return whole32(a, b, c);
     uint64_t u = (uint64_t)((i & 0x7fffff) | 0x800000) * ((j & 0x7fffff) | 0x800000);
     uint64_t v = (uint64_t)((l & 0x7fffff) | 0x800000) << d;

@@ -1,0 +1,17 @@
+-- `common_replay::calls::reply_at` meets its contract.
+-- Assumes nothing.
+use Rattle.common_replay.specs.Calls.{replyAt}
+use borrow.Author.Needs.{needs}
+use Rattle.common_replay.proofs.calls.reply_at.Statement.{statement}
+use Rattle.common_replay.proofs.calls.reply_at.Tie as tie
+
+returns : tie.Need-returns
+unfolding replyAt
+returns c = cc
+
+pub reply-at-spec : {M : Type 1} → statement M
+reply-at-spec =
+    tie.close
+    (tie.spec
+    (λ c. search needs) (λ c κs. tt) (λ c. search needs) (λ c κs. tt) (λ c. search needs)
+    (λ c κs. tt) (λ c. search needs) (λ c κs. tt) (λ c κs. tt) (λ c κs. tt) returns)
