@@ -1,0 +1,45 @@
+// The noise gate's settings: what each may be, what it changes, and its name.
+mod names;
+mod ranges;
+
+use answer::Decibels;
+use answer::Factor;
+pub use names::find;
+pub use names::kept;
+pub use ranges::both;
+pub use ranges::in_its_range;
+pub use ranges::settable;
+pub use ranges::with_setting;
+pub use ranges::worked;
+
+// What a host sets. `attack`, `release` and `hold` are in milliseconds; `opening` and `closing` are
+// attack's and release's smoothing numbers, `rising` and `falling` the follower's two.
+#[repr(C)]
+pub struct Settings {
+    pub rate: f32,
+    pub threshold: Decibels,
+    pub factor: Factor,
+    pub ratio: f32,
+    pub attack: f32,
+    pub opening: f32,
+    pub release: f32,
+    pub closing: f32,
+    pub hold: f32,
+    pub rising: f32,
+    pub falling: f32,
+}
+
+// A setting: its value, and the worked number that it takes.
+pub enum Setting {
+    Threshold(Decibels, Factor),
+    Ratio(f32),
+    Attack(f32, f32),
+    Release(f32, f32),
+    Hold(f32),
+}
+
+// What a name and the numbers beside it ask for.
+pub enum Named {
+    Known(Setting),
+    Unknown,
+}

@@ -1,0 +1,122 @@
+-- The gate's calls: make, set, read, reset, block, with document 01's refusals in its order. Definitions only.
+-- Assumes nothing.
+use Prim.Native.Nat.{ℕ}
+use mathlib.Core.Bool.{_&&_}
+use mathlib.Core.List.{List}
+use lib.Dec.{eqb, leb}
+use lib.ListN.{length}
+use lib.Ieee.{Float}
+use Rattle.answer.specs.Figures.{f32, nought, one, longestBlock}
+use Rattle.answer.specs.Checks.{isRate, isSmoothing, firstRefused}
+use Rattle.answer.specs.Told.{Told, refused, done, doneWith, unless}
+use Rattle.answer.specs.declared.Decibels.{Decibels}
+use Rattle.answer.specs.declared.Factor.{Factor}
+use Rattle.answer.specs.declared.Refusal.{Refusal}
+use Rattle.answer.specs.declared.Refusal.the-variants.{NoSetting, OutOfRange, BadWorkedNumber, BadRate, BadSample, LengthsDiffer, TooLong, BadState}
+use Rattle.fold.specs.Fold.{stateAfter, outAfter, countAfter}
+use Rattle.noise_gate.specs.Figures.{madeHold}
+use Rattle.gate_sample.specs.Step.{aim, output, next}
+use Rattle.gate_settings.specs.Ranges.{inItsRange, worked, withSetting}
+use Rattle.noise_gate.specs.Bounds.{acceptable}
+use Rattle.gate_settings.specs.Names.{named, kept}
+use Rattle.gate_settings.specs.declared.Settings.{Settings}
+use Rattle.gate_sample.specs.declared.Registers.{Registers}
+use Rattle.noise_gate.specs.declared.Gate.{Gate}
+use Rattle.gate_settings.specs.declared.Setting.{Setting}
+use Rattle.gate_settings.specs.declared.Named.{Named}
+use Rattle.gate_settings.specs.declared.Named.the-variants.{Known, Unknown}
+
+abbrev pub gateOf : Settings → Registers → Gate
+gateOf s m = record { settings = s; registers = m }
+
+abbrev pub atRest : Registers
+atRest = record { level = nought; state = nought; counter = 0 }
+
+-- ---- make: 5, 4
+unfoldable pub madeSettings : Float → Float → Float → Settings
+madeSettings rate rising falling = record {
+  rate = rate;
+  threshold = record { 0 = nought };
+  factor = record { 0 = one };
+  ratio = f32 10 1;
+  attack = one;
+  opening = nought;
+  release = f32 100 1;
+  closing = nought;
+  hold = f32 madeHold 1;
+  rising = rising;
+  falling = falling;
+}
+
+-- what a refused making gives
+abbrev pub unmade : Gate
+unmade = record {
+  settings = record {
+    rate = nought;
+    threshold = record { 0 = nought };
+    factor = record { 0 = nought };
+    ratio = nought;
+    attack = nought;
+    opening = nought;
+    release = nought;
+    closing = nought;
+    hold = nought;
+    rising = nought;
+    falling = nought;
+  };
+  registers = atRest;
+}
+
+unfoldable pub make : Float → Float → Float → Told Gate
+make rate rising falling =
+    unless (isRate rate) (refused unmade BadRate)
+    (unless (isSmoothing rising && isSmoothing falling) (refused unmade BadWorkedNumber)
+    (done (gateOf (madeSettings rate rising falling) atRest)))
+
+-- ---- set, typed: 9, 3, 4; and by a name with its numbers: 9, 1, 3, 4
+unfoldable pub setTyped : Gate → Setting → Told Gate
+setTyped g t =
+    unless (acceptable g) (refused g BadState)
+    (unless (inItsRange t) (refused g OutOfRange)
+    (unless (worked t) (refused g BadWorkedNumber)
+    (done (gateOf (withSetting (g .settings) t) (g .registers)))))
+
+unfoldable pub setFound : Gate → Named → Told Gate
+setFound g (Known t) = setTyped g t
+setFound g Unknown = refused g NoSetting
+
+unfoldable pub set : Gate → List ℕ → Float → Float → Told Gate
+set g name v w = unless (acceptable g) (refused g BadState) (setFound g (named name v w))
+
+-- ---- read: 9, 1
+unfoldable pub readFound : Gate → Named → Told Gate
+readFound g (Known t) = doneWith g 0 (kept (g .settings) t)
+readFound g Unknown = refused g NoSetting
+
+unfoldable pub read : Gate → List ℕ → Told Gate
+read g name = unless (acceptable g) (refused g BadState) (readFound g (named name nought nought))
+
+-- ---- reset: 9
+unfoldable pub reset : Gate → Told Gate
+reset g = unless (acceptable g) (refused g BadState) (done (gateOf (g .settings) atRest))
+
+-- ---- block: 9, 7, 8, 6
+module _ (s : Settings) (m : Registers) (xs : List Float) where
+  -- one sample after the other: what they leave, what they give, and how many of them are aimed open
+  abbrev pub after : Registers
+  after = stateAfter (next s) m xs
+
+  abbrev pub outputs : List Float
+  outputs = outAfter (next s) (output s) m xs
+
+  abbrev pub openCount : ℕ
+  openCount = countAfter (next s) (aim s) m xs
+
+-- what is told, and what the buffer for the output holds afterwards; a refusal leaves it as it was
+unfoldable pub block : Gate → List Float → List Float → Told Gate × List Float
+block g xs out =
+    unless (acceptable g) (refused g BadState, out)
+    (unless (eqb (length xs) (length out)) (refused g LengthsDiffer, out)
+    (unless (leb (length xs) longestBlock) (refused g TooLong, out)
+    (unless (leb (length xs) (firstRefused xs)) (refused g (BadSample (firstRefused xs)), out)
+    (doneWith (gateOf (g .settings) (after (g .settings) (g .registers) xs)) (openCount (g .settings) (g .registers) xs) nought, outputs (g .settings) (g .registers) xs))))

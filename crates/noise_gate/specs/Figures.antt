@@ -1,0 +1,11 @@
+-- The gate's figures, each once and by name. Definitions only.
+-- Assumes nothing.
+use Prim.Native.Nat.{ℕ}
+
+-- the hold of a made gate, in ms
+abbrev pub madeHold : ℕ
+madeHold = 50
+
+-- the longest hold in samples: the counter's bound
+abbrev pub longestCount : ℕ
+longestCount = 96000

@@ -1,0 +1,203 @@
+// The gate's calls by value: make, set, read, reset, block. A refusal changes nothing.
+use crate::Answer;
+use crate::Answered;
+use crate::Gate;
+use crate::Passage;
+use crate::Passed;
+use crate::Ran;
+use crate::Reading;
+use crate::Registers;
+use crate::bounds;
+use crate::samples;
+use answer::Decibels;
+use answer::Factor;
+use answer::Refusal;
+use gate_settings::Named;
+use gate_settings::Setting;
+use gate_settings::Settings;
+ghost use Prim.Native.Nat.{_≤_};
+ghost use lib.ListN.{length};
+ghost use mathlib.Core.Path.{_≡_};
+ghost use Rattle.answer.specs.Told as Told;
+ghost use Rattle.noise_gate.specs.Answers.{told, toldRead, toldBlock};
+ghost use Rattle.noise_gate.specs.Calls as Calls;
+
+// The hold of a made gate, in milliseconds.
+const MADE_HOLD: f32 = 50.0;
+
+const AT_REST: Registers = Registers {
+    level: 0.0,
+    state: 0.0,
+    counter: 0,
+};
+
+// What a refused making gives.
+const UNMADE: Gate = Gate {
+    settings: Settings {
+        rate: 0.0,
+        threshold: Decibels(0.0),
+        factor: Factor(0.0),
+        ratio: 0.0,
+        attack: 0.0,
+        opening: 0.0,
+        release: 0.0,
+        closing: 0.0,
+        hold: 0.0,
+        rising: 0.0,
+        falling: 0.0,
+    },
+    registers: AT_REST,
+};
+
+fn made_settings(rate: f32, rising: f32, falling: f32) -> Settings
+    ensures { λ r. ⌜ r ≡ Calls.madeSettings rate rising falling ⌝ }
+{
+    Settings {
+        rate: rate,
+        threshold: Decibels(0.0),
+        factor: Factor(1.0),
+        ratio: 10.0,
+        attack: 1.0,
+        opening: 0.0,
+        release: 100.0,
+        closing: 0.0,
+        hold: MADE_HOLD,
+        rising: rising,
+        falling: falling,
+    }
+}
+
+fn refused(g: Gate, r: Refusal) -> Answered
+    ensures { λ a. ⌜ told (a .gate) (a .answer) ≡ Told.refused g r ⌝ }
+{
+    Answered {
+        gate: g,
+        answer: Answer::Refused(r),
+    }
+}
+
+// A gate at rest at that rate, its follower's numbers lent: 5, 4.
+pub fn make(rate: f32, rising: f32, falling: f32) -> Answered
+    ensures { λ r. ⌜ told (r .gate) (r .answer) ≡ Calls.make rate rising falling ⌝ }
+{
+    if !answer::is_rate(rate) {
+        return refused(UNMADE, Refusal::BadRate);
+    }
+    if !gate_settings::both(answer::is_smoothing(rising), answer::is_smoothing(falling)) {
+        return refused(UNMADE, Refusal::BadWorkedNumber);
+    }
+    Answered {
+        gate: Gate {
+            settings: made_settings(rate, rising, falling),
+            registers: AT_REST,
+        },
+        answer: Answer::Done,
+    }
+}
+
+// A typed setting: 9, 3, 4.
+pub fn set_typed(g: Gate, t: Setting) -> Answered
+    ensures { λ r. ⌜ told (r .gate) (r .answer) ≡ Calls.setTyped g t ⌝ }
+{
+    if !bounds::acceptable(g) {
+        return refused(g, Refusal::BadState);
+    }
+    if !gate_settings::in_its_range(t) {
+        return refused(g, Refusal::OutOfRange);
+    }
+    if !gate_settings::worked(t) {
+        return refused(g, Refusal::BadWorkedNumber);
+    }
+    let s = g.settings;
+    let m = g.registers;
+    Answered {
+        gate: Gate {
+            settings: gate_settings::with_setting(s, t),
+            registers: m,
+        },
+        answer: Answer::Done,
+    }
+}
+
+// A setting by its name, with a value and a worked number: 9, 1, 3, 4.
+pub fn set(g: Gate, name: &[u8], value: f32, number: f32) -> Answered
+    ensures { λ r. ⌜ told (r .gate) (r .answer) ≡ Calls.set g (now (name .entry)) value number ⌝ }
+{
+    if !bounds::acceptable(g) {
+        return refused(g, Refusal::BadState);
+    }
+    let Named::Known(t) = gate_settings::find(name, value, number) else {
+        return refused(g, Refusal::NoSetting);
+    };
+    set_typed(g, t)
+}
+
+// The value of the setting of that name: 9, 1.
+pub fn read(g: Gate, name: &[u8]) -> Reading
+    ensures { λ r. ⌜ toldRead g r ≡ Calls.read g (now (name .entry)) ⌝ }
+{
+    if !bounds::acceptable(g) {
+        return Reading::Refused(Refusal::BadState);
+    }
+    let Named::Known(t) = gate_settings::find(name, 0.0, 0.0) else {
+        return Reading::Refused(Refusal::NoSetting);
+    };
+    let s = g.settings;
+    Reading::Done(gate_settings::kept(s, t))
+}
+
+// Level, state and counter 0: 9.
+pub fn reset(g: Gate) -> Answered
+    ensures { λ r. ⌜ told (r .gate) (r .answer) ≡ Calls.reset g ⌝ }
+{
+    if !bounds::acceptable(g) {
+        return refused(g, Refusal::BadState);
+    }
+    let s = g.settings;
+    Answered {
+        gate: Gate {
+            settings: s,
+            registers: AT_REST,
+        },
+        answer: Answer::Done,
+    }
+}
+
+fn stopped(g: Gate, r: Refusal) -> Ran
+    ensures { λ a. ⌜ toldBlock (a .gate) (a .answer) ≡ Told.refused g r ⌝ }
+{
+    Ran {
+        gate: g,
+        answer: Passage::Refused(r),
+    }
+}
+
+// A block of samples, and the buffer for its output: 9, 7, 8, 6.
+pub fn block(g: Gate, input: &[f32], output: &mut [f32]) -> Ran
+    ensures { λ r. ⌜ (toldBlock (r .gate) (r .answer), now (output .exit)) ≡ Calls.block g (now (input .entry)) (now (output .entry)) ⌝ }
+{
+    if !bounds::acceptable(g) {
+        return stopped(g, Refusal::BadState);
+    }
+    if !answer::lengths_agree(input.len(), output.len()) {
+        return stopped(g, Refusal::LengthsDiffer);
+    }
+    if !answer::at_most(input.len(), answer::LONGEST_BLOCK) {
+        return stopped(g, Refusal::TooLong);
+    }
+    let place = answer::first_refused(input);
+    if place < input.len() {
+        return stopped(g, Refusal::BadSample(place));
+    }
+    let s = g.settings;
+    let m = g.registers;
+    let moved = samples::run(s, m, input, output);
+    let next = moved.registers;
+    Ran {
+        gate: Gate {
+            settings: s,
+            registers: next,
+        },
+        answer: Passage::Done(Passed { count: moved.count }),
+    }
+}

@@ -1,0 +1,65 @@
+// The noise gate: its state, and what its calls answer.
+mod bounds;
+mod calls;
+pub mod in_place;
+mod samples;
+
+use answer::Refusal;
+pub use bounds::acceptable;
+pub use calls::block;
+pub use calls::make;
+pub use calls::read;
+pub use calls::reset;
+pub use calls::set;
+pub use calls::set_typed;
+pub use gate_sample::Registers;
+pub use gate_sample::Stepped;
+pub use gate_sample::step;
+pub use gate_settings::Setting;
+pub use gate_settings::Settings;
+
+// What a host sets, and what a sample moves.
+#[repr(C)]
+pub struct Gate {
+    pub settings: Settings,
+    pub registers: Registers,
+}
+
+// What making, setting and reset answer.
+pub enum Answer {
+    Done,
+    Refused(Refusal),
+}
+
+// What reading answers.
+pub enum Reading {
+    Done(f32),
+    Refused(Refusal),
+}
+
+// A done block: how many of its samples were aimed open.
+pub struct Passed {
+    pub count: usize,
+}
+
+// What a block answers.
+pub enum Passage {
+    Done(Passed),
+    Refused(Refusal),
+}
+
+pub struct Answered {
+    pub gate: Gate,
+    pub answer: Answer,
+}
+
+pub struct Ran {
+    pub gate: Gate,
+    pub answer: Passage,
+}
+
+// What a block's samples leave, and how many of them were aimed open.
+struct Moved {
+    registers: Registers,
+    count: usize,
+}
