@@ -1,4 +1,4 @@
--- `float_replay::main` meets its contract.
+-- `float_replay::main` ends, with its buffers as long as they were.
 -- Assumes nothing.
 use mathlib.Core.Path.{_≡_}
 use lib.ListN.{length}
@@ -12,45 +12,10 @@ Inv-loop cases₀ answers₀ turns₀ cases answers turns = (length cases ≡ 51
 abbrev μ-loop : tie.MeasureT-loop
 μ-loop cases₀ answers₀ turns₀ cases answers turns = turns
 
-loop-holds : tie.Need-loop-holds Inv-loop μ-loop
-loop-holds c = search needs
-
-slice-aggregate-answer-some : tie.Need-slice-aggregate-answer-some Inv-loop μ-loop
-slice-aggregate-answer-some c = search needs
-
-slice-aggregate-answer-some-2 : tie.Need-slice-aggregate-answer-some-2 Inv-loop μ-loop
-slice-aggregate-answer-some-2 c = search needs
-
-answer-some-requires : tie.Need-answer-some-requires Inv-loop μ-loop
-answer-some-requires c κs = tt
-
-sub-turns : tie.Need-sub-turns Inv-loop μ-loop
-sub-turns c = search needs
-
-loop-less : tie.Need-loop-less Inv-loop μ-loop
-loop-less c = search needs
-
-loop-again : tie.Need-loop-again Inv-loop μ-loop
-loop-again c = search needs
-
-returns : tie.Need-returns Inv-loop μ-loop
-returns c = search needs
-
-returns-2 : tie.Need-returns-2 Inv-loop μ-loop
-returns-2 c = search needs
-
 pub main-spec : {M : Type 1} → statement M
 main-spec =
     tie.close
     (tie.spec
-    Inv-loop
-    μ-loop
-    loop-holds
-    slice-aggregate-answer-some
-    slice-aggregate-answer-some-2
-    answer-some-requires
-    sub-turns
-    loop-less
-    loop-again
-    returns
-    returns-2)
+    Inv-loop μ-loop (λ c. search needs) (λ c. search needs) (λ c. search needs) (λ c κs. tt)
+    (λ c. search needs) (λ c. search needs) (λ c. search needs) (λ c. search needs)
+    (λ c. search needs))

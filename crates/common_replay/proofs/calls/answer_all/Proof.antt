@@ -17,40 +17,13 @@ Inv-loop calls answers₀ count i₀ answers i = (i ≤ count) × (length answer
 abbrev μ-loop : tie.MeasureT-loop
 μ-loop calls answers₀ count i₀ answers i = count - i
 
-least-requires : tie.Need-least-requires Inv-loop μ-loop
-least-requires c κs = tt
-
 loop-holds : tie.Need-loop-holds Inv-loop μ-loop
 unfolding answered
 loop-holds c = search needs
 
-mul-reply-at : tie.Need-mul-reply-at Inv-loop μ-loop
-mul-reply-at c = omega arith
-
-reply-at-requires : tie.Need-reply-at-requires Inv-loop μ-loop
-reply-at-requires c κs = omega arith
-
-mul-put : tie.Need-mul-put Inv-loop μ-loop
-mul-put c = omega arith
-
-put-requires : tie.Need-put-requires Inv-loop μ-loop
-put-requires c κs = omega arith
-
-add-i : tie.Need-add-i Inv-loop μ-loop
-add-i c = omega arith
-
-loop-less : tie.Need-loop-less Inv-loop μ-loop
-loop-less c = omega arith
-
 loop-again : tie.Need-loop-again Inv-loop μ-loop
 unfolding answered
 loop-again c = (search needs, search needs, rw add-one (cc))
-
-mul-result : tie.Need-mul-result Inv-loop μ-loop
-mul-result c = omega arith
-
-same-length : tie.Need-same-length Inv-loop μ-loop
-same-length c = search needs
 
 returns : tie.Need-returns Inv-loop μ-loop
 returns c =
@@ -61,17 +34,6 @@ pub answer-all-spec : {M : Type 1} → statement M
 answer-all-spec =
     tie.close
     (tie.spec
-    Inv-loop
-    μ-loop
-    least-requires
-    loop-holds
-    mul-reply-at
-    reply-at-requires
-    mul-put
-    put-requires
-    add-i
-    loop-less
-    loop-again
-    mul-result
-    same-length
-    returns)
+    Inv-loop μ-loop (λ c κs. tt) loop-holds (λ c. omega arith) (λ c κs. omega arith)
+    (λ c. omega arith) (λ c κs. omega arith) (λ c. omega arith) (λ c. omega arith) loop-again
+    (λ c. omega arith) (λ c. search needs) returns)
