@@ -15,7 +15,21 @@ void check(const char *call, uint64_t given, uint64_t expected, uint64_t a, uint
 /* The next of a fixed sequence of bits without pattern. */
 uint64_t drawn(void);
 
+/* Bits that matter, in a width told by its sign and its infinity: zero, the subnormals' and the normal
+ * numbers' ends, one and the next above, infinity; each with both signs. */
+enum { SPECIAL = 16, NANS = 128 };
+uint64_t special_bits(uint64_t sign, uint64_t infinity, int i);
+
+/* NaNs of both signs: each single digit of the fraction, of which the highest alone makes a quiet
+ * one; all of them; all but the highest; any. */
+uint64_t nan_bits(uint64_t sign, uint64_t infinity, int i);
+
 void float_checks(void);
+void common_checks(void);
+void gate_checks(void);
+
+#define QUIET32 0x7fc00000u
+#define QUIET64 0x7ff8000000000000u
 
 /* A number's bytes, a NaN's too: no arithmetic and no cast touches them. */
 static inline uint32_t bytes32(float x)

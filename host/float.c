@@ -5,10 +5,7 @@
 #include "checks.h"
 #include "hoofglaze.h"
 
-#define QUIET32 0x7fc00000u
-#define QUIET64 0x7ff8000000000000u
-
-enum { SPECIAL = 16, NANS = 128, RANDOM = 2000 };
+enum { RANDOM = 2000 };
 
 struct width {
     uint64_t sign, infinity, quiet;
@@ -80,26 +77,14 @@ static uint64_t hidden(const struct width *w)
     return w->infinity & -w->infinity;
 }
 
-/* Zero, the subnormals' and the normal numbers' ends, one and the next above, infinity; each with
- * both signs. */
 static uint64_t special(const struct width *w, int i)
 {
-    uint64_t one = w->infinity / 2 & w->infinity;
-    uint64_t sizes[SPECIAL / 2] = {0, 1, hidden(w) - 1, hidden(w), one, one + 1, w->infinity - 1,
-                                   w->infinity};
-    return sizes[i / 2] + (i % 2 ? w->sign : 0);
+    return special_bits(w->sign, w->infinity, i);
 }
 
-/* NaNs of both signs: each single digit of the fraction, of which the highest alone makes a quiet
- * one; all of them; all but the highest; any. */
 static uint64_t nan_of(const struct width *w, int i)
 {
-    uint64_t highest = hidden(w) / 2, digit = (uint64_t)1 << (i / 2 % 64);
-    uint64_t fraction = digit <= highest       ? digit
-                        : digit == highest * 2 ? highest * 2 - 1
-                        : digit == highest * 4 ? highest - 1
-                                               : drawn() % (hidden(w) - 1) + 1;
-    return (i % 2 ? w->sign : 0) + w->infinity + fraction;
+    return nan_bits(w->sign, w->infinity, i);
 }
 
 static void check_fma(const struct width *w, uint64_t a, uint64_t b, uint64_t c, uint64_t expected)

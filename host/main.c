@@ -41,9 +41,35 @@ uint64_t drawn(void)
     return state * 0x2545f4914f6cdd1d;
 }
 
+/* The lowest digit of the exponent: what a normal number's significand has above its fraction. */
+static uint64_t hidden(uint64_t infinity)
+{
+    return infinity & -infinity;
+}
+
+uint64_t special_bits(uint64_t sign, uint64_t infinity, int i)
+{
+    uint64_t one = infinity / 2 & infinity;
+    uint64_t sizes[SPECIAL / 2] = {0, 1, hidden(infinity) - 1, hidden(infinity), one, one + 1,
+                                   infinity - 1, infinity};
+    return sizes[i / 2] + (i % 2 ? sign : 0);
+}
+
+uint64_t nan_bits(uint64_t sign, uint64_t infinity, int i)
+{
+    uint64_t highest = hidden(infinity) / 2, digit = (uint64_t)1 << (i / 2 % 64);
+    uint64_t fraction = digit <= highest       ? digit
+                        : digit == highest * 2 ? highest * 2 - 1
+                        : digit == highest * 4 ? highest - 1
+                                               : drawn() % (hidden(infinity) - 1) + 1;
+    return (i % 2 ? sign : 0) + infinity + fraction;
+}
+
 int main(void)
 {
     float_checks();
+    common_checks();
+    gate_checks();
     close_group();
     printf("host: %lu checks, %lu failed\n", checks, failed);
     return checks == 0 || failed != 0;

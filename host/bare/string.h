@@ -2,3 +2,5 @@
 void *memcpy(void *to, const void *from, __SIZE_TYPE__ bytes);
 int strcmp(const char *s, const char *t);
 int memcmp(const void *s, const void *t, __SIZE_TYPE__ bytes);
+void *memset(void *to, int byte, __SIZE_TYPE__ bytes);
+__SIZE_TYPE__ strlen(const char *s);

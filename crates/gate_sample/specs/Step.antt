@@ -6,7 +6,6 @@ use lib.Dec.{ltb}
 use lib.Ieee.{Float, binary32, lt, mul, sub, div, toUnsigned}
 use Rattle.rounding.specs.Fma.{fma}
 use Rattle.answer.specs.Figures.{f32, nought, one}
-use Rattle.answer.specs.declared.Factor.{Factor}
 use Rattle.common.specs.Follower.{toward, followed}
 use Rattle.gate_sample.specs.Figures.{wideOpen}
 use Rattle.gate_settings.specs.declared.Settings.{Settings}

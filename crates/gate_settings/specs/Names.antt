@@ -4,10 +4,7 @@ use Prim.Native.Nat.{ℕ}
 use mathlib.Core.Bool.{cond}
 use mathlib.Core.List.{List}
 use lib.Ieee.{Float}
-use Rattle.answer.specs.Figures.{nought}
 use Rattle.answer.specs.Names.{bytes, same}
-use Rattle.answer.specs.declared.Decibels.{Decibels}
-use Rattle.answer.specs.declared.Factor.{Factor}
 use Rattle.gate_settings.specs.declared.Settings.{Settings}
 use Rattle.gate_settings.specs.declared.Setting.{Setting}
 use Rattle.gate_settings.specs.declared.Setting.the-variants.{Threshold, Ratio, Attack, Release, Hold}

@@ -1,11 +1,9 @@
 -- What a setting may be and what it changes; which settings could have been set or made. Definitions only.
 -- Assumes nothing.
 use mathlib.Core.Bool.{Bool, true, _&&_}
-use lib.Ieee.{Float, neg}
+use lib.Ieee.{neg}
 use Rattle.answer.specs.Figures.{f32, nought, one}
 use Rattle.answer.specs.Checks.{inRange, isRate, isSmoothing}
-use Rattle.answer.specs.declared.Decibels.{Decibels}
-use Rattle.answer.specs.declared.Factor.{Factor}
 use Rattle.gate_settings.specs.Figures.{longestHold}
 use Rattle.gate_settings.specs.declared.Settings.{Settings}
 use Rattle.gate_settings.specs.declared.Setting.{Setting}

@@ -1,83 +1,42 @@
-// What a C or Rust host links: float arithmetic under C names, each call with the contract of the
-// function that it hands on to. Assumes nothing.
+// What a C or Rust host links: each part's calls under C names, with numbers for answers.
+// Assumes nothing.
+pub mod arithmetic;
+pub mod gate;
+pub mod gate_in_place;
+pub mod lone;
+
 ghost use mathlib.Core.Path.{_≡_};
-ghost use lib.Ieee.{binary32, binary64, ofBits, toBits, toUnsigned};
-ghost use Rattle.rounding.specs.Fma.{fma};
-ghost use Rattle.rounding.specs.Casts.{narrow, absolute};
+ghost use Rattle.hoofglaze.specs.Answers as Answers;
+use answer::Refusal;
 
-#[no_mangle]
-pub extern "C" fn hoofglaze_fma32(a: f32, b: f32, c: f32) -> f32
-    ensures { λ r. ⌜ r ≡ fma binary32 a b c ⌝ }
-{
-    float::fma32(a, b, c)
+// Document 01's number, the value read or stepped, the place of the first sample that is refused, and
+// the count of samples aimed open; each +0 or 0 where the call has none.
+#[repr(C)]
+pub struct Answer {
+    pub number: u32,
+    pub value: f32,
+    pub place: usize,
+    pub count: usize,
 }
 
-#[no_mangle]
-pub extern "C" fn hoofglaze_fma64(a: f64, b: f64, c: f64) -> f64
-    ensures { λ r. ⌜ r ≡ fma binary64 a b c ⌝ }
+fn refused(r: Refusal) -> Answer
+    ensures { λ a. ⌜ a ≡ Answers.refused r ⌝ }
 {
-    float::fma64(a, b, c)
+    Answer {
+        number: answer::number(r),
+        value: 0.0,
+        place: answer::place(r),
+        count: 0,
+    }
 }
 
-#[no_mangle]
-pub extern "C" fn hoofglaze_size32(x: f32) -> f32
-    ensures { λ r. ⌜ r ≡ absolute x ⌝ }
+fn done(count: usize, value: f32) -> Answer
+    ensures { λ a. ⌜ a ≡ Answers.done count value ⌝ }
 {
-    float::size32(x)
-}
-
-#[no_mangle]
-pub extern "C" fn hoofglaze_size64(x: f64) -> f64
-    ensures { λ r. ⌜ r ≡ absolute x ⌝ }
-{
-    float::size64(x)
-}
-
-#[no_mangle]
-pub extern "C" fn hoofglaze_truncated(x: f32) -> u64
-    ensures { λ r. ⌜ r ≡ toUnsigned 64 x ⌝ }
-{
-    float::truncated(x)
-}
-
-#[no_mangle]
-pub extern "C" fn hoofglaze_narrowed(x: f64) -> f32
-    ensures { λ r. ⌜ r ≡ narrow x ⌝ }
-{
-    float::narrowed(x)
-}
-
-#[no_mangle]
-pub extern "C" fn hoofglaze_widened(x: f32) -> f64
-    ensures { λ r. ⌜ r ≡ x ⌝ }
-{
-    float::widened(x)
-}
-
-#[no_mangle]
-pub extern "C" fn hoofglaze_bits32(x: f32) -> u32
-    ensures { λ r. ⌜ r ≡ toBits binary32 x ⌝ }
-{
-    float::bits32(x)
-}
-
-#[no_mangle]
-pub extern "C" fn hoofglaze_bits64(x: f64) -> u64
-    ensures { λ r. ⌜ r ≡ toBits binary64 x ⌝ }
-{
-    float::bits64(x)
-}
-
-#[no_mangle]
-pub extern "C" fn hoofglaze_from_bits32(n: u32) -> f32
-    ensures { λ r. ⌜ r ≡ ofBits binary32 n ⌝ }
-{
-    float::from_bits32(n)
-}
-
-#[no_mangle]
-pub extern "C" fn hoofglaze_from_bits64(n: u64) -> f64
-    ensures { λ r. ⌜ r ≡ ofBits binary64 n ⌝ }
-{
-    float::from_bits64(n)
+    Answer {
+        number: 0,
+        value: value,
+        place: 0,
+        count: count,
+    }
 }

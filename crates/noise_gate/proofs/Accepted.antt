@@ -1,19 +1,16 @@
 -- The settings and the registers that 9 accepts, of f32s: making gives them and every setting keeps them. What holds of their numbers.
 -- Assumes nothing.
-use mathlib.Core.Path.{_≡_}
-use mathlib.Core.Bool.{Bool, true, false, _&&_}
-use mathlib.Core.List.{List, [], _∷_}
-use Prim.Native.Nat.{ℕ, _≤_}
+use mathlib.Core.Bool.{true, false}
+use mathlib.Core.List.{[], _∷_}
+use Prim.Native.Nat.{_≤_}
 use native.Mathlib.Omega.{arith}
-use lib.Dec.{T, leb, leb→le, le→leb}
+use lib.Dec.{T, leb, le→leb}
 use lib.Ieee.{Float, nan, inf, fin, binary32, lt, le, fits, neg, whole}
 use lib.Ieee.Positive.{positive, between}
 use lib.Ieee.Fits.{and-i, and-l, and-r}
 use Rattle.rounding.proofs.Smoothing.{sixty-four, In, lt→le, zero-le-absolute}
-use Rattle.answer.specs.Figures.{f32, nought, one, lowestRate, highestRate, largestSample}
+use Rattle.answer.specs.Figures.{f32, nought, one, lowestRate, highestRate}
 use Rattle.answer.specs.Checks.{inRange, isRate, isSmoothing}
-use Rattle.answer.specs.declared.Decibels.{Decibels}
-use Rattle.answer.specs.declared.Factor.{Factor}
 use Rattle.gate_settings.specs.Figures.{longestHold}
 use Rattle.noise_gate.specs.Figures.{longestCount}
 use Rattle.gate_sample.specs.Step.{holdSamples}

@@ -1,7 +1,7 @@
 -- What a gate keeps from call to call. Of a made gate, after any calls: its settings are `Settable`, its registers `Bounded`, and whatever Inv holds at rest with no history and is kept by one sample
 -- holds of its registers and its history. So a promise about samples is proved for one sample, and `along` carries it through the calls. Assumes nothing.
 use mathlib.Core.Path.{_≡_, refl}
-use mathlib.Core.Bool.{Bool, true, false, cond, not, _&&_}
+use mathlib.Core.Bool.{Bool, true, false, cond, _&&_}
 use mathlib.Core.List.{List, [], _∷_}
 use Prim.Native.Nat.{ℕ, zero, suc, _≤_}
 use native.Mathlib.Omega.{arith}
@@ -12,7 +12,7 @@ use lib.Ieee.Fits.{and-i, and-l, and-r}
 use Rattle.rounding.specs.Casts.{absolute}
 use Rattle.rounding.proofs.Smoothing.{sixty-four}
 use Rattle.fold.specs.Fold.{stateAfter}
-use Rattle.answer.specs.Figures.{f32, nought, longestBlock}
+use Rattle.answer.specs.Figures.{f32, longestBlock}
 use Rattle.answer.specs.Checks.{isRate, isSmoothing, isRefused, firstRefused}
 use Rattle.answer.specs.Names.{bytes, same}
 use Rattle.answer.specs.Told.{Told, refused, unless, whereDone}
@@ -30,7 +30,7 @@ use Rattle.noise_gate.specs.declared.Gate.{Gate}
 use Rattle.gate_settings.specs.declared.Setting.{Setting}
 use Rattle.gate_settings.specs.declared.Named.{Named}
 use Rattle.gate_settings.specs.declared.Named.the-variants.{Known, Unknown}
-use Rattle.noise_gate.proofs.Accepted.{F32, Settable, Bounded, made-settable, set-settable, rest-bounded, accepts}
+use Rattle.noise_gate.proofs.Accepted.{F32, Settable, Bounded, made-settable, set-settable, rest-bounded}
 use Rattle.noise_gate.proofs.OneSample.{either, next-bounded}
 
 -- ---- the samples of a block that is done

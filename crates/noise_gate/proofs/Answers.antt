@@ -2,14 +2,11 @@
 -- Assumes nothing.
 use mathlib.Core.Path.{_≡_, refl, sym, ap}
 use Prim.Native.Nat.{ℕ}
-use lib.Ieee.{Float}
 use Rattle.answer.specs.Told.{Told}
 use Rattle.answer.specs.Refusals.{number, place}
-use Rattle.answer.specs.declared.Refusal.{Refusal}
 use Rattle.answer.proofs.Refusals.{one-to-one, never-nought}
 use Rattle.noise_gate.specs.Answers.{told, toldRead, toldBlock}
 use Rattle.noise_gate.specs.declared.Gate.{Gate}
-use Rattle.noise_gate.specs.declared.Passed.{Passed}
 use Rattle.noise_gate.specs.declared.Answer.{Answer}
 use Rattle.noise_gate.specs.declared.Answer.the-variants as answer
 use Rattle.noise_gate.specs.declared.Reading.{Reading}

@@ -1,6 +1,6 @@
 -- The count that a call reports is the number of its samples aimed open, and what a done block writes are their outputs.
 -- Assumes nothing.
-use mathlib.Core.Path.{_≡_, refl, sym, _∙_}
+use mathlib.Core.Path.{_≡_, refl, _∙_}
 use mathlib.Core.Bool.{Bool, true, false, cond}
 use mathlib.Core.List.{List, [], _∷_}
 use Prim.Native.Nat.{ℕ, suc, _+_}
@@ -8,7 +8,7 @@ use native.Mathlib.Omega.{arith}
 use lib.Dec.{eqb, leb}
 use lib.ListN.{length}
 use lib.Ieee.{Float}
-use Rattle.fold.specs.Fold.{more, stateAfter, outAfter, countAfter}
+use Rattle.fold.specs.Fold.{more, outAfter, countAfter}
 use Rattle.answer.specs.Figures.{longestBlock}
 use Rattle.answer.specs.Checks.{firstRefused}
 use Rattle.answer.specs.Told.{Told, whereDone}

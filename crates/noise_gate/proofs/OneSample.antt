@@ -1,7 +1,7 @@
 -- One sample of an accepted gate: where its state goes, how large its output is, and that its registers stay in bounds.
 -- Assumes nothing.
 use mathlib.Core.Bool.{Bool, true, false, cond}
-use Prim.Native.Nat.{ℕ, _≤_}
+use Prim.Native.Nat.{_≤_}
 use native.Mathlib.Omega.{arith}
 use lib.Dec.{T}
 use lib.Ieee.{Float, nan, inf, fin, binary32, lt, le, mul, sub, div}
@@ -11,7 +11,7 @@ use Rattle.rounding.specs.Casts.{absolute}
 use Rattle.rounding.proofs.Units.{U}
 use Rattle.rounding.proofs.Smoothing as Smooth
 use Rattle.rounding.proofs.Smoothing.{sixty-four, tiny, In, one-in, again, one-known, closing-to, closing-to-strictly, closing-in, rest-of-nought, opening-within, opening-never-falls, gain-within, share-of}
-use Rattle.answer.specs.Figures.{f32, nought, one, largestSample}
+use Rattle.answer.specs.Figures.{f32, nought, one}
 use Rattle.answer.specs.Checks.{inRange}
 use Rattle.common.specs.Follower.{toward, followed}
 use Rattle.common.proofs.Level.{level-within, level-fits}
@@ -83,7 +83,7 @@ module _ (s : Settings) (m : Registers) (x : Float) (a : Settable s) (b : Bounde
       (and-i (le nought (m .level)) (le (m .level) sixty-four) (b .level .above) (b .level .below)) lx in
       record { fit = level-fits (s .rising) (s .falling) (m .level) x; above = and-l (le nought v) (le v sixty-four) r; below = and-r (le nought v) (le v sixty-four) r }
 
-  gain-in : In binary32 one (gain s m x)
+  pub gain-in : In binary32 one (gain s m x)
   unfolding gain gainAt
   gain-in =
       let g = div binary32 one (s .ratio) in

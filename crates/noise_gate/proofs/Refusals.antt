@@ -6,11 +6,11 @@ use mathlib.Core.List.{List}
 use Prim.Native.Nat.{ℕ}
 use lib.Dec.{eqb, leb}
 use lib.ListN.{length}
-use lib.Ieee.{Float, binary32, le, lt, whole}
+use lib.Ieee.{Float, le, lt, whole}
 use Rattle.answer.specs.Figures.{f32, longestBlock}
 use Rattle.answer.specs.Checks.{isRate, firstRefused}
 use Rattle.answer.specs.Told.{Told, refused, Unchanged}
-use Rattle.answer.specs.declared.Refusal.the-variants.{NoSetting, OutOfRange, BadWorkedNumber, BadState}
+use Rattle.answer.specs.declared.Refusal.the-variants.{OutOfRange, BadWorkedNumber, BadState}
 use Rattle.answer.proofs.Told.{unchanged-done, unchanged-test}
 use Rattle.gate_settings.specs.Ranges.{inItsRange, worked, settable}
 use Rattle.noise_gate.specs.Bounds.{acceptable}

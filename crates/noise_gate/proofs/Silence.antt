@@ -7,7 +7,6 @@ use Prim.Native.Nat.{ℕ, _-_}
 use lib.Dec.{T, ltb}
 use lib.Ieee.{Float}
 use Rattle.answer.specs.Figures.{f32}
-use Rattle.answer.specs.Told.{Told}
 use Rattle.gate_sample.specs.Step.{holdSamples, loud, counter, aim, next}
 use Rattle.noise_gate.specs.Bounds.{acceptable}
 use Rattle.noise_gate.specs.Calls.{atRest, make}

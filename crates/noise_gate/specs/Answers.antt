@@ -3,7 +3,6 @@
 use Rattle.answer.specs.Figures.{nought}
 use Rattle.answer.specs.Told.{Told, refused, done, doneWith}
 use Rattle.noise_gate.specs.declared.Gate.{Gate}
-use Rattle.noise_gate.specs.declared.Passed.{Passed}
 use Rattle.noise_gate.specs.declared.Answer.{Answer}
 use Rattle.noise_gate.specs.declared.Answer.the-variants as answer
 use Rattle.noise_gate.specs.declared.Reading.{Reading}

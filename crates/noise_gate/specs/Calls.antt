@@ -9,9 +9,6 @@ use lib.Ieee.{Float}
 use Rattle.answer.specs.Figures.{f32, nought, one, longestBlock}
 use Rattle.answer.specs.Checks.{isRate, isSmoothing, firstRefused}
 use Rattle.answer.specs.Told.{Told, refused, done, doneWith, unless}
-use Rattle.answer.specs.declared.Decibels.{Decibels}
-use Rattle.answer.specs.declared.Factor.{Factor}
-use Rattle.answer.specs.declared.Refusal.{Refusal}
 use Rattle.answer.specs.declared.Refusal.the-variants.{NoSetting, OutOfRange, BadWorkedNumber, BadRate, BadSample, LengthsDiffer, TooLong, BadState}
 use Rattle.fold.specs.Fold.{stateAfter, outAfter, countAfter}
 use Rattle.noise_gate.specs.Figures.{madeHold}

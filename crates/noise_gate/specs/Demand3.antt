@@ -13,7 +13,6 @@ use Rattle.answer.specs.Figures.{f32, nought, one}
 use Rattle.answer.specs.Told.{whereDone}
 use Rattle.noise_gate.specs.Calls.{make, block}
 use Rattle.noise_gate.specs.History.{Call, Block, SetTyped, Set, Reset, answered, carried, Sample, heard, allF32, InF32}
-use Rattle.gate_sample.specs.declared.Registers.{Registers}
 use Rattle.noise_gate.specs.declared.Gate.{Gate}
 
 -- ---- the samples that count: "samples of refused blocks don't count". A block that is done adds its own, a reset that is done forgets all

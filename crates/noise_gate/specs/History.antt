@@ -6,8 +6,6 @@ use Prim.Native.Nat.{ℕ}
 use lib.Dec.{T}
 use lib.Ieee.{Float, binary32, fits}
 use Rattle.answer.specs.Told.{Told}
-use Rattle.answer.specs.declared.Decibels.{Decibels}
-use Rattle.answer.specs.declared.Factor.{Factor}
 use Rattle.gate_sample.specs.Step.{holdSamples, level, aim, state, output, next}
 use Rattle.noise_gate.specs.Calls.{setTyped, set, reset, block}
 use Rattle.gate_settings.specs.declared.Settings.{Settings}

@@ -1,9 +1,9 @@
 -- P6 and P7 of document 01's proved table, as rows: what the definitions give, beside what the paper says. Definitions only.
 -- Assumes nothing.
-use Prim.Native.Nat.{ℕ, _^_}
-use mathlib.Core.Bool.{Bool, cond}
+use Prim.Native.Nat.{ℕ}
+use mathlib.Core.Bool.{cond}
 use mathlib.Core.List.{List, [], _∷_}
-use lib.Ieee.{Float, binary32, ofBits, toBits, toUnsigned, mul, sub, div, lt, le}
+use lib.Ieee.{binary32, ofBits, toBits, toUnsigned, mul, sub, div, lt, le}
 use Rattle.rounding.specs.Fma.{fma}
 use Rattle.rounding.specs.Casts.{absolute}
 use Rattle.rounding.specs.Table.{Row}
@@ -13,7 +13,6 @@ use Rattle.gate_sample.specs.Step.{holdSamples, level, loud, counter, aim, targ
 use Rattle.gate_settings.specs.Ranges.{withSetting}
 use Rattle.noise_gate.specs.Calls.{madeSettings, atRest}
 use Rattle.gate_settings.specs.declared.Settings.{Settings}
-use Rattle.gate_sample.specs.declared.Registers.{Registers}
 use Rattle.gate_settings.specs.declared.Setting.the-variants.{Hold}
 
 -- a made gate's settings at 48,000 Hz, with a hold of n / d ms: its follower's numbers are 0, so the level is the sample's size, and a sample above 1 is loud

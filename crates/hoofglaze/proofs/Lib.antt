@@ -1,0 +1,2 @@
+-- What crosses to a host.
+mod Answers

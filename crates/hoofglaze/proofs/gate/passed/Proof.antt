@@ -1,0 +1,27 @@
+-- `hoofglaze::gate::passed` meets its contract. Assumes nothing.
+use borrow.Author.Needs.{needs}
+use Rattle.hoofglaze.proofs.gate.passed.Statement.{statement}
+use Rattle.hoofglaze.proofs.gate.passed.Tie as tie
+
+enum-known-a : tie.Need-enum-known-a
+enum-known-a c = search needs
+
+counted-requires : tie.Need-counted-requires
+counted-requires c κs = search needs
+
+enum-known-a-2 : tie.Need-enum-known-a-2
+enum-known-a-2 c = search needs
+
+refused-requires : tie.Need-refused-requires
+refused-requires c κs = search needs
+
+returns : tie.Need-returns
+returns c = cc
+
+returns-2 : tie.Need-returns-2
+returns-2 c = cc
+
+pub passed-spec : {M : Type 1} → statement M
+passed-spec =
+    tie.close
+    (tie.spec enum-known-a counted-requires enum-known-a-2 refused-requires returns returns-2)

@@ -1,0 +1,4 @@
+-- Answers as they cross to a host.
+pub mod Answers
+pub mod Lone
+pub mod Gate
