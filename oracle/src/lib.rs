@@ -3,6 +3,7 @@
 //! Each stage that has a replay program has a module here, with a model written from document 01, the
 //! Rust stage with worked numbers lent, and a generator of call lists; [`replay::named`] finds it.
 pub mod bits;
+pub mod clipper;
 pub mod common;
 pub mod compare;
 pub mod exact;

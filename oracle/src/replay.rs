@@ -1,6 +1,6 @@
 //! What the oracle has for each replay program: a list of calls, the bytes of its standard input, and
 //! the answers to a list, the bytes of its standard output.
-use crate::{common::Common, float::Float, random::Random};
+use crate::{clipper::Clipper, common::Common, float::Float, random::Random};
 use std::collections::BTreeMap;
 
 pub trait Replay: Sync {
@@ -27,6 +27,7 @@ pub fn named(name: &str) -> Option<&'static dyn Replay> {
     match name {
         "float" => Some(&Float),
         "common" => Some(&Common),
+        "clipper" => Some(&Clipper),
         _ => None,
     }
 }

@@ -5,8 +5,9 @@ use mathlib.Core.Bool.{cond, _||_}
 use mathlib.Core.List.{List, [], _∷_}
 use Prim.Native.Nat.{ℕ, _-_}
 use lib.Dec.{T, ltb}
-use lib.Ieee.{Float}
-use Rattle.answer.specs.Figures.{f32}
+use lib.Ieee.{Float, le, lt, whole}
+use Rattle.answer.specs.Figures.{f32, nought}
+use Rattle.answer.specs.Checks.{isRate, isSmoothing}
 use Rattle.gate_sample.specs.Step.{holdSamples, loud, counter, aim, next}
 use Rattle.noise_gate.specs.Bounds.{acceptable}
 use Rattle.noise_gate.specs.Calls.{atRest, make}
@@ -67,3 +68,8 @@ pub accepted : (rate rising falling : Float) → T (allF32 (rate ∷ rising ∷ 
 accepted rate rising falling f d cs fs =
     let k = along Follows at-first kept rate rising falling f d cs fs in
     accepts (carried (make rate rising falling .state) cs) (k .settable) (k .bounded)
+
+-- there is such a gate: one made at 48,000 Hz
+pub some-made : make (f32 48000 1) nought nought .number ≡ 0
+unfolding make isRate isSmoothing whole le lt f32
+some-made = refl

@@ -85,7 +85,7 @@ setFound g Unknown = refused g NoSetting
 unfoldable pub set : Gate → List ℕ → Float → Float → Told Gate
 set g name v w = unless (acceptable g) (refused g BadState) (setFound g (named name v w))
 
--- ---- read: 9, 1
+-- ---- read: 9, 1. The numbers that stand beside a name when it is set play no part
 unfoldable pub readFound : Gate → Named → Told Gate
 readFound g (Known t) = doneWith g 0 (kept (g .settings) t)
 readFound g Unknown = refused g NoSetting
