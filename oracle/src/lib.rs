@@ -8,6 +8,7 @@ pub mod common;
 pub mod compare;
 pub mod exact;
 pub mod float;
+pub mod gate;
 pub mod power;
 pub mod random;
 pub mod replay;

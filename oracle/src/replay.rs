@@ -1,6 +1,6 @@
 //! What the oracle has for each replay program: a list of calls, the bytes of its standard input, and
 //! the answers to a list, the bytes of its standard output.
-use crate::{clipper::Clipper, common::Common, float::Float, random::Random};
+use crate::{clipper::Clipper, common::Common, float::Float, gate::NoiseGate, random::Random};
 use std::collections::BTreeMap;
 
 pub trait Replay: Sync {
@@ -28,6 +28,7 @@ pub fn named(name: &str) -> Option<&'static dyn Replay> {
         "float" => Some(&Float),
         "common" => Some(&Common),
         "clipper" => Some(&Clipper),
+        "noise_gate" => Some(&NoiseGate),
         _ => None,
     }
 }

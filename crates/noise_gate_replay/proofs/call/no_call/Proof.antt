@@ -1,0 +1,12 @@
+-- `noise_gate_replay::call::no_call` meets its contract.
+-- Assumes nothing.
+use lib.Ieee.{ofBits}
+use Rattle.noise_gate_replay.proofs.call.no_call.Statement.{statement}
+use Rattle.noise_gate_replay.proofs.call.no_call.Tie as tie
+
+returns : tie.Need-returns
+unfolding ofBits
+returns c = cc
+
+pub no-call-spec : {M : Type 1} → statement M
+no-call-spec = tie.close (tie.spec returns)

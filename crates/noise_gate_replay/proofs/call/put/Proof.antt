@@ -1,0 +1,44 @@
+-- `noise_gate_replay::call::put` meets its contract.
+-- Assumes nothing.
+use Rattle.noise_gate_replay.specs.Call.{put}
+use borrow.Author.Needs.{needs}
+use Rattle.noise_gate_replay.proofs.call.put.Statement.{statement}
+use Rattle.noise_gate_replay.proofs.call.put.Tie as tie
+
+put-u32-requires : tie.Need-put-u32-requires
+put-u32-requires c κs = search needs
+
+bits32-requires : tie.Need-bits32-requires
+bits32-requires c κs = search needs
+
+put-u32-requires-2 : tie.Need-put-u32-requires-2
+put-u32-requires-2 c κs = search needs
+
+put-u64-requires : tie.Need-put-u64-requires
+put-u64-requires c κs = search needs
+
+put-u64-requires-2 : tie.Need-put-u64-requires-2
+put-u64-requires-2 c κs = search needs
+
+put-requires : tie.Need-put-requires
+put-requires c κs = search needs
+
+same-length : tie.Need-same-length
+same-length c = search needs
+
+returns : tie.Need-returns
+unfolding put
+returns c = cc
+
+pub put-spec : {M : Type 1} → statement M
+put-spec =
+    tie.close
+    (tie.spec
+    put-u32-requires
+    bits32-requires
+    put-u32-requires-2
+    put-u64-requires
+    put-u64-requires-2
+    put-requires
+    same-length
+    returns)

@@ -1,0 +1,19 @@
+-- `noise_gate_replay::call::refused` meets its contract.
+-- Assumes nothing.
+use lib.Ieee.{ofBits}
+use borrow.Author.Needs.{needs}
+use Rattle.noise_gate_replay.proofs.call.refused.Statement.{statement}
+use Rattle.noise_gate_replay.proofs.call.refused.Tie as tie
+
+number-requires : tie.Need-number-requires
+number-requires c κs = search needs
+
+place-requires : tie.Need-place-requires
+place-requires c κs = search needs
+
+returns : tie.Need-returns
+unfolding ofBits
+returns c = cc
+
+pub refused-spec : {M : Type 1} → statement M
+refused-spec = tie.close (tie.spec number-requires place-requires returns)

@@ -1,0 +1,17 @@
+-- `noise_gate_replay::call::reset` meets its contract.
+-- Assumes nothing.
+use borrow.Author.Needs.{needs}
+use Rattle.noise_gate_replay.proofs.call.reset.Statement.{statement}
+use Rattle.noise_gate_replay.proofs.call.reset.Tie as tie
+
+reset-requires : tie.Need-reset-requires
+reset-requires c κs = search needs
+
+answered-requires : tie.Need-answered-requires
+answered-requires c κs = search needs
+
+returns : tie.Need-returns
+returns c = cc
+
+pub reset-spec : {M : Type 1} → statement M
+reset-spec = tie.close (tie.spec reset-requires answered-requires returns)

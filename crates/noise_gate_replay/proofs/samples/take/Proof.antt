@@ -1,0 +1,77 @@
+-- `noise_gate_replay::samples::take` meets its contract.
+-- Assumes nothing.
+use Prim.Native.Nat.{_-_, _≤_}
+use mathlib.Core.Path.{_≡_}
+use lib.ListN.{length}
+use native.Mathlib.Numerals.{add-one}
+use borrow.Author.Needs.{needs}
+use Rattle.noise_gate_replay.specs.Samples.{taken}
+use native.Mathlib.Omega.{arith}
+use borrow.Author.Needs.{needs}
+use borrow.Author.Needs.{needs}
+use borrow.Author.Needs.{needs}
+use borrow.Author.Needs.{needs}
+use borrow.Author.Needs.{needs}
+use borrow.Author.Needs.{needs}
+use borrow.Author.Needs.{needs}
+use Rattle.noise_gate_replay.proofs.samples.take.Statement.{statement}
+use Rattle.noise_gate_replay.proofs.samples.take.Tie as tie
+
+abbrev Inv-loop : tie.InvT-loop
+Inv-loop samples₀ bytes i₀ samples i = (i ≤ length samples₀) × (length samples ≡ length samples₀) × (samples ≡ taken bytes i samples₀)
+
+abbrev μ-loop : tie.MeasureT-loop
+μ-loop samples₀ bytes i₀ samples i = length samples₀ - i
+
+loop-holds : tie.Need-loop-holds Inv-loop μ-loop
+unfolding taken
+loop-holds c = search needs
+
+mul-u32-at : tie.Need-mul-u32-at Inv-loop μ-loop
+mul-u32-at c = omega arith
+
+u32-at-requires : tie.Need-u32-at-requires Inv-loop μ-loop
+u32-at-requires c κs = tt
+
+from-bits32-requires : tie.Need-from-bits32-requires Inv-loop μ-loop
+from-bits32-requires c κs = tt
+
+mul-samples : tie.Need-mul-samples Inv-loop μ-loop
+mul-samples c = omega arith
+
+slice-write-samples : tie.Need-slice-write-samples Inv-loop μ-loop
+slice-write-samples c = omega arith
+
+add-i : tie.Need-add-i Inv-loop μ-loop
+add-i c = omega arith
+
+loop-less : tie.Need-loop-less Inv-loop μ-loop
+loop-less c = omega arith
+
+loop-again : tie.Need-loop-again Inv-loop μ-loop
+unfolding taken
+loop-again c = (search needs, search needs, rw add-one (cc))
+
+same-length : tie.Need-same-length Inv-loop μ-loop
+same-length c = search needs
+
+returns : tie.Need-returns Inv-loop μ-loop
+returns c = let all : c .before .loop .i ≡ length (c .before .before .before .before .args .samples .now) = omega arith in rw (← all) (c .before .loop .inv .2)
+
+pub take-spec : {M : Type 1} → statement M
+take-spec =
+    tie.close
+    (tie.spec
+    Inv-loop
+    μ-loop
+    loop-holds
+    mul-u32-at
+    u32-at-requires
+    from-bits32-requires
+    mul-samples
+    slice-write-samples
+    add-i
+    loop-less
+    loop-again
+    same-length
+    returns)

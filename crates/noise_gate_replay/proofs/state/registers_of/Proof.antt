@@ -1,0 +1,23 @@
+-- `noise_gate_replay::state::registers_of` meets its contract.
+-- Assumes nothing.
+use Rattle.noise_gate_replay.specs.State.{registersOf}
+use borrow.Author.Needs.{needs}
+use Rattle.noise_gate_replay.proofs.state.registers_of.Statement.{statement}
+use Rattle.noise_gate_replay.proofs.state.registers_of.Tie as tie
+
+number-at-requires : tie.Need-number-at-requires
+number-at-requires c κs = search needs
+
+number-at-requires-2 : tie.Need-number-at-requires-2
+number-at-requires-2 c κs = search needs
+
+u64-at-requires : tie.Need-u64-at-requires
+u64-at-requires c κs = search needs
+
+returns : tie.Need-returns
+unfolding registersOf
+returns c = cc
+
+pub registers-of-spec : {M : Type 1} → statement M
+registers-of-spec =
+    tie.close (tie.spec number-at-requires number-at-requires-2 u64-at-requires returns)

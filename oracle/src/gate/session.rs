@@ -1,0 +1,99 @@
+//! Sessions: a gate carried through calls drawn at random.
+use super::{
+    call::Call,
+    cases::{List, OTHERS, settings},
+    numbers,
+    rules::{Gate, LONGEST_BLOCK},
+    signals,
+};
+
+impl List<'_> {
+    /// A gate made and set, or handed back, and blocks on it between calls that change it or are
+    /// refused.
+    pub(super) fn session(&mut self) {
+        let mut gate = numbers::acceptable(self.random);
+        match self.random.below(16) {
+            0 => self.refused_making(),
+            1 => {
+                let spoilt = self.random.pick(&numbers::spoilt(&gate));
+                self.refused_by_9(spoilt);
+            }
+            _ => {}
+        }
+        if self.random.below(4) > 0 {
+            self.made(&gate);
+        } else {
+            self.add(Call::Load(gate));
+        }
+        for _ in 0..self.random.between(1, 8) {
+            let length = self.length();
+            self.drawn(&gate, length);
+            match self.random.below(6) {
+                0 => self.add(Call::Reset),
+                1 => self.refused(&gate),
+                2 | 3 => gate = self.changed(gate),
+                _ => {}
+            }
+        }
+    }
+
+    /// A making that is refused, and a call on what it gives.
+    fn refused_making(&mut self) {
+        let rate = self.random.pick(&numbers::RATES_REFUSED);
+        let c = self.random.pick(&numbers::SMOOTHING_REFUSED);
+        let making = match self.random.below(3) {
+            0 => Call::Make(rate, 0.5, c),
+            1 => Call::Make(48_000.0, 0.5, c),
+            _ => Call::Make(48_000.0, c, 0.5),
+        };
+        self.add(making);
+        self.add(Call::Block(vec![0.5; 3], 3));
+    }
+
+    /// Mostly short, so that much happens between blocks.
+    fn length(&mut self) -> usize {
+        let random = &mut *self.random;
+        match random.below(64) {
+            0 => random.pick(&[0, 1, 2, LONGEST_BLOCK - 1, LONGEST_BLOCK]),
+            1..4 => random.below(LONGEST_BLOCK as u64) as usize,
+            _ => random.below(500) as usize,
+        }
+    }
+
+    /// A setting as another gate has it; `gate` with it taken.
+    fn changed(&mut self, gate: Gate) -> Gate {
+        let other = numbers::acceptable(self.random);
+        let setting = self.random.pick(&settings(&other));
+        self.set(setting, setting.worked().unwrap_or(f32::INFINITY));
+        self.add(Call::Read(setting.name().into()));
+        setting.taken(gate)
+    }
+
+    /// A call that is refused, so nothing changes.
+    fn refused(&mut self, gate: &Gate) {
+        match self.random.below(50) {
+            0 => {
+                let samples = signals::drawn(gate, LONGEST_BLOCK + 1, self.random);
+                self.add(Call::Block(samples, LONGEST_BLOCK + 1));
+            }
+            1..10 => {
+                let name = self.random.pick(&OTHERS);
+                self.add(Call::SetNamed(name.into(), 1.0, 0.5));
+            }
+            10..30 => {
+                let setting = numbers::refused_setting(self.random);
+                self.set(setting, setting.worked().unwrap_or(0.0));
+            }
+            30..40 => {
+                let mut samples = signals::drawn(gate, 20, self.random);
+                samples[self.random.below(20) as usize] = numbers::refused_sample(self.random);
+                self.add(Call::Block(samples, 20));
+            }
+            _ => {
+                let samples = signals::drawn(gate, 10, self.random);
+                let places = self.random.below(10) as usize;
+                self.add(Call::Block(samples, places));
+            }
+        }
+    }
+}
