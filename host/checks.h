@@ -27,6 +27,7 @@ uint64_t nan_bits(uint64_t sign, uint64_t infinity, int i);
 void float_checks(void);
 void common_checks(void);
 void gate_checks(void);
+void clipper_checks(void);
 
 #define QUIET32 0x7fc00000u
 #define QUIET64 0x7ff8000000000000u

@@ -185,6 +185,14 @@ hoofglaze_answer hoofglaze_gate_reset_in_place(hoofglaze_gate *g);
 hoofglaze_answer hoofglaze_gate_block_in_place(hoofglaze_gate *g, const float *input, size_t samples,
                                                float *output, size_t places);
 
+/* ---- Clipper
+ *
+ * A block of n samples by a finite drive, else 3: the product, then the clamp to -1..1 or the triode's
+ * table. Refused by 7, 8, 3, 6, in this order; n and m are the lengths of the two buffers, which must
+ * not overlap. Every output of a done block is from -1 to 1. It keeps no state. */
+hoofglaze_answer hoofglaze_clip_hard(float drive, const float *input, size_t n, float *output, size_t m);
+hoofglaze_answer hoofglaze_clip_triode(float drive, const float *input, size_t n, float *output, size_t m);
+
 #ifdef __cplusplus
 }
 #endif

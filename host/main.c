@@ -70,6 +70,7 @@ int main(void)
     float_checks();
     common_checks();
     gate_checks();
+    clipper_checks();
     close_group();
     printf("host: %lu checks, %lu failed\n", checks, failed);
     return checks == 0 || failed != 0;

@@ -19,13 +19,13 @@ module _ (lowest highest d : Float) where
   inside-at (x ∷ xs) t zero h = (and-l (le lowest x) (le x highest && inside xs) t, and-l (le x highest) (inside xs) (and-r (le lowest x) (le x highest && inside xs) t))
   inside-at (x ∷ xs) t (suc i) h = inside-at xs (and-r (le x highest) (inside xs) (and-r (le lowest x) (le x highest && inside xs) t)) i (le-of-suc-le-suc h)
 
-  abbrev pub rising : List Float → Bool
-  rising [] = true
-  rising (x ∷ []) = true
-  rising (x ∷ y ∷ xs) = le x y && rising (y ∷ xs)
+abbrev pub rising : List Float → Bool
+rising [] = true
+rising (x ∷ []) = true
+rising (x ∷ y ∷ xs) = le x y && rising (y ∷ xs)
 
-  pub rising-at : (xs : List Float) → T (rising xs) → (i : ℕ) → suc i < length xs → T (le (getD xs i d) (getD xs (suc i) d))
-  rising-at [] t i h = absurd (not-suc-le-zero h)
-  rising-at (x ∷ []) t i h = absurd (not-suc-le-zero (le-of-suc-le-suc h))
-  rising-at (x ∷ y ∷ xs) t zero h = and-l (le x y) (rising (y ∷ xs)) t
-  rising-at (x ∷ y ∷ xs) t (suc i) h = rising-at (y ∷ xs) (and-r (le x y) (rising (y ∷ xs)) t) i (le-of-suc-le-suc h)
+pub rising-at : (d : Float) (xs : List Float) → T (rising xs) → (i : ℕ) → suc i < length xs → T (le (getD xs i d) (getD xs (suc i) d))
+rising-at d [] t i h = absurd (not-suc-le-zero h)
+rising-at d (x ∷ []) t i h = absurd (not-suc-le-zero (le-of-suc-le-suc h))
+rising-at d (x ∷ y ∷ xs) t zero h = and-l (le x y) (rising (y ∷ xs)) t
+rising-at d (x ∷ y ∷ xs) t (suc i) h = rising-at d (y ∷ xs) (and-r (le x y) (rising (y ∷ xs)) t) i (le-of-suc-le-suc h)

@@ -20,13 +20,13 @@ all-inside : T (inside minusOne one nan table)
 unfolding table tableBits ofBits le
 all-inside = tt
 
-all-rise : T (rising minusOne one nan table)
+all-rise : T (rising table)
 unfolding table tableBits ofBits le
 all-rise = tt
 
 pub never-falls : (i : ℕ) → suc i < 256 → T (le (entry i) (entry (suc i)))
 unfolding entry table tableBits
-never-falls i h = rising-at minusOne one nan table all-rise i h
+never-falls i h = rising-at nan table all-rise i h
 
 pub within : (i : ℕ) → i < 256 → T (le minusOne (entry i)) × T (le (entry i) one)
 unfolding entry table tableBits

@@ -1,2 +1,3 @@
 -- What crosses to a host.
 mod Answers
+mod Clipped

@@ -2,3 +2,4 @@
 pub mod Answers
 pub mod Lone
 pub mod Gate
+pub mod Clip

@@ -1,6 +1,7 @@
 // What a C or Rust host links: each part's calls under C names, with numbers for answers.
 // Assumes nothing.
 pub mod arithmetic;
+pub mod clip;
 pub mod gate;
 pub mod gate_in_place;
 pub mod lone;
