@@ -4,8 +4,9 @@ use Prim.Native.Nat.{ℕ, _%_}
 use mathlib.Core.Bool.{cond}
 use mathlib.Core.List.{List}
 use lib.Dec.{eqb}
-use lib.Ieee.{Float, binary32, ofBits}
+use lib.Ieee.{Float}
 use Rattle.words.specs.Words.{word32At, put32At, put64At}
+use Rattle.samples.specs.Samples.{floatAt}
 use Rattle.answer.specs.Figures.{nought}
 use Rattle.answer.specs.Refusals as refusals
 use Rattle.answer.specs.Told.{Told}
@@ -16,9 +17,6 @@ use Rattle.clipper.specs.declared.Kind.the-variants.{Hard, Triode}
 use Rattle.clipper.specs.declared.Answer.{Answer}
 use Rattle.clipper.specs.declared.Answer.the-variants.{Done, Refused}
 use Rattle.clipper_replay.specs.declared.call.Reply.{Reply}
-
-abbrev pub floatAt : List ℕ → ℕ → Float
-floatAt bytes at = ofBits binary32 (word32At bytes at)
 
 abbrev pub kind : List ℕ → Kind
 kind head = cond (eqb (word32At head 0 % 2) 1) Hard Triode

@@ -16,7 +16,7 @@ pub fn block(head: &[u8], input: &[f32], output: &mut [f32]) -> Reply
     ensures { λ r. ⌜ Call.told (now (output .exit)) r ≡ Block.block (Call.kind (now (head .entry))) (Call.drive (now (head .entry))) (now (input .entry)) (now (output .entry)) ⌝ }
 {
     let kind = kind_of(head);
-    let drive = float_at(head, 4);
+    let drive = samples::float_at(head, 4);
     reply_to(clipper::block(kind, drive, input, output))
 }
 
@@ -43,7 +43,7 @@ pub fn value(head: &[u8]) -> f32
         return clipper::entry(words::u32_at(head, 8) as usize);
     }
     let kind = kind_of(head);
-    clipper::process(kind, float_at(head, 8), float_at(head, 4))
+    clipper::process(kind, samples::float_at(head, 8), samples::float_at(head, 4))
 }
 
 // Hard by 1 and 3, else triode.
@@ -55,12 +55,6 @@ fn kind_of(head: &[u8]) -> Kind
     } else {
         Kind::Triode
     }
-}
-
-fn float_at(bytes: &[u8], at: usize) -> f32
-    ensures { λ r. ⌜ r ≡ Call.floatAt (now (bytes .entry)) at ⌝ }
-{
-    float::from_bits32(words::u32_at(bytes, at))
 }
 
 // Writes an answer's 12 bytes.

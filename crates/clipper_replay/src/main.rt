@@ -14,7 +14,6 @@
 // the call gives. Where no call has the number, the answer is 12 bytes of ones. A call that the input
 // ends in has no answer. A read or a write that fails is named on standard error, and ends the run.
 mod call;
-mod samples;
 
 use libc::STDERR_FILENO;
 use libc::STDIN_FILENO;
@@ -22,16 +21,6 @@ use libc::STDOUT_FILENO;
 ghost use Prim.Native.Nat.{_≤_};
 ghost use lib.ListN.{length};
 ghost use Rattle.clipper_replay.specs.Buffers.{Buffers};
-
-fn at_most(n: u32, most: usize) -> usize
-    ensures { λ r. ⌜ r ≤ most ⌝ }
-{
-    if (n as usize) < most {
-        n as usize
-    } else {
-        most
-    }
-}
 
 // Whether there may be another call, now that the input did not fill a buffer. Only a read that gives
 // nothing says that it has ended, and any other one says that a read has failed.
@@ -79,8 +68,8 @@ fn answer_block(
 ) -> bool
     requires { ⌜ Buffers (now bytes) (now input) (now output) (now answer) ⌝ }
 {
-    let n = at_most(words::u32_at(head, 8), 4097);
-    let m = at_most(words::u32_at(head, 12), 4097);
+    let n = samples::least(words::u32_at(head, 8) as usize, 4097);
+    let m = samples::least(words::u32_at(head, 12) as usize, 4097);
     let wanted = n * 4;
     let got = io::read_full(STDIN_FILENO, &mut bytes[..wanted]);
     if got < wanted {

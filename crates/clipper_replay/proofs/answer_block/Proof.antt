@@ -8,14 +8,20 @@ use Rattle.clipper_replay.proofs.answer_block.Tie as tie
 u32-at-requires : tie.Need-u32-at-requires
 u32-at-requires c κs = search needs
 
-at-most-requires : tie.Need-at-most-requires
-at-most-requires c κs = search needs
+cast-least : tie.Need-cast-least
+cast-least c = search needs
+
+least-requires : tie.Need-least-requires
+least-requires c κs = search needs
 
 u32-at-requires-2 : tie.Need-u32-at-requires-2
 u32-at-requires-2 c κs = search needs
 
-at-most-requires-2 : tie.Need-at-most-requires-2
-at-most-requires-2 c κs = search needs
+cast-least-2 : tie.Need-cast-least-2
+cast-least-2 c = search needs
+
+least-requires-2 : tie.Need-least-requires-2
+least-requires-2 c κs = search needs
 
 mul-wanted : tie.Need-mul-wanted
 mul-wanted c = search needs
@@ -85,9 +91,11 @@ answer-block-spec =
     tie.close
     (tie.spec
     u32-at-requires
-    at-most-requires
+    cast-least
+    least-requires
     u32-at-requires-2
-    at-most-requires-2
+    cast-least-2
+    least-requires-2
     mul-wanted
     slice-relend-prefix-read-full
     slice-aggregate-read-full

@@ -1,7 +1,7 @@
--- `clipper_replay::call::float_at` meets its contract. Assumes nothing.
+-- `samples::float_at` meets its contract. Assumes nothing.
 use borrow.Author.Needs.{needs}
-use Rattle.clipper_replay.proofs.call.float_at.Statement.{statement}
-use Rattle.clipper_replay.proofs.call.float_at.Tie as tie
+use Rattle.samples.proofs.float_at.Statement.{statement}
+use Rattle.samples.proofs.float_at.Tie as tie
 
 u32-at-requires : tie.Need-u32-at-requires
 u32-at-requires c κs = search needs

@@ -1,13 +1,13 @@
--- `clipper_replay::samples::fill` meets its contract. Assumes nothing.
+-- `samples::fill` meets its contract. Assumes nothing.
 use Prim.Native.Nat.{_-_, _≤_}
 use mathlib.Core.Path.{_≡_}
 use native.Mathlib.Omega.{arith}
 use native.Mathlib.Numerals.{add-one}
 use lib.ListN.{length}
 use borrow.Author.Needs.{needs}
-use Rattle.clipper_replay.specs.Samples.{filled}
-use Rattle.clipper_replay.proofs.samples.fill.Statement.{statement}
-use Rattle.clipper_replay.proofs.samples.fill.Tie as tie
+use Rattle.samples.specs.Samples.{filled}
+use Rattle.samples.proofs.fill.Statement.{statement}
+use Rattle.samples.proofs.fill.Tie as tie
 
 abbrev Inv-loop : tie.InvT-loop
 Inv-loop samples₀ x i₀ samples i = (i ≤ length samples₀) × (length samples ≡ length samples₀) × (samples ≡ filled x i samples₀)

@@ -1,17 +1,16 @@
--- `clipper_replay::samples::put` meets its contract.
+-- `samples::put` meets its contract.
 -- Assumes nothing.
 use Prim.Native.Nat.{ℕ, _+_, _-_, _*_, _≤_}
 use mathlib.Core.List.{List}
 use mathlib.Core.Path.{_≡_}
 use lib.ListN.{length, getD}
-use lib.Ieee.{Float, nan, binary32, toBits}
-use Rattle.words.specs.Words.{put32At}
+use lib.Ieee.{Float, nan}
 use native.Mathlib.Numerals.{add-one}
 use borrow.Author.Needs.{needs}
-use Rattle.clipper_replay.specs.Samples.{put}
+use Rattle.samples.specs.Samples.{put, putFloat}
 use native.Mathlib.Omega.{arith}
-use Rattle.clipper_replay.proofs.samples.put.Statement.{statement}
-use Rattle.clipper_replay.proofs.samples.put.Tie as tie
+use Rattle.samples.proofs.put.Statement.{statement}
+use Rattle.samples.proofs.put.Tie as tie
 
 abbrev Inv-loop : tie.InvT-loop
 Inv-loop bytes₀ samples i₀ bytes i = (i ≤ length samples) × (length bytes ≡ length bytes₀) × (bytes ≡ put samples i bytes₀)
@@ -23,20 +22,17 @@ loop-holds : tie.Need-loop-holds Inv-loop μ-loop
 unfolding put
 loop-holds c = search needs
 
-mul-put-u32 : tie.Need-mul-put-u32 Inv-loop μ-loop
-mul-put-u32 c = omega arith
+mul-put-float : tie.Need-mul-put-float Inv-loop μ-loop
+mul-put-float c = omega arith
 
-mul-bits32 : tie.Need-mul-bits32 Inv-loop μ-loop
-mul-bits32 c = omega arith
+mul-put-float-2 : tie.Need-mul-put-float-2 Inv-loop μ-loop
+mul-put-float-2 c = omega arith
 
-shared-slice-read-bits32 : tie.Need-shared-slice-read-bits32 Inv-loop μ-loop
-shared-slice-read-bits32 c = omega arith
+shared-slice-read-put-float : tie.Need-shared-slice-read-put-float Inv-loop μ-loop
+shared-slice-read-put-float c = omega arith
 
-bits32-requires : tie.Need-bits32-requires Inv-loop μ-loop
-bits32-requires c κs = tt
-
-put-u32-requires : tie.Need-put-u32-requires Inv-loop μ-loop
-put-u32-requires c κs = tt
+put-float-requires : tie.Need-put-float-requires Inv-loop μ-loop
+put-float-requires c κs = tt
 
 add-i : tie.Need-add-i Inv-loop μ-loop
 add-i c = omega arith
@@ -44,12 +40,12 @@ add-i c = omega arith
 loop-less : tie.Need-loop-less Inv-loop μ-loop
 loop-less c = omega arith
 
-next : (samples : List Float) (n : ℕ) (bytes : List ℕ) → put samples (n + 1) bytes ≡ put32At (put samples n bytes) (n * 4) (toBits binary32 (getD samples n nan))
+next : (samples : List Float) (n : ℕ) (bytes : List ℕ) → put samples (n + 1) bytes ≡ putFloat (put samples n bytes) (n * 4) (getD samples n nan)
 unfolding put
 next samples n bytes = rw add-one
 
 loop-again : tie.Need-loop-again Inv-loop μ-loop
-loop-again c = (search needs, search needs, rw (next, ← (c .before .before .before .before .before .before .before .loop .inv .2), ← (c .before .before .before .bits32 .ensures)) (c .before .before .put-u32 .ensures))
+loop-again c = (search needs, search needs, rw next (cc))
 
 same-length : tie.Need-same-length Inv-loop μ-loop
 same-length c = search needs
@@ -64,11 +60,10 @@ put-spec =
     Inv-loop
     μ-loop
     loop-holds
-    mul-put-u32
-    mul-bits32
-    shared-slice-read-bits32
-    bits32-requires
-    put-u32-requires
+    mul-put-float
+    mul-put-float-2
+    shared-slice-read-put-float
+    put-float-requires
     add-i
     loop-less
     loop-again

@@ -1,14 +1,14 @@
--- `clipper_replay::samples::take` meets its contract.
+-- `samples::take` meets its contract.
 -- Assumes nothing.
 use Prim.Native.Nat.{_-_, _≤_}
 use mathlib.Core.Path.{_≡_}
 use lib.ListN.{length}
 use native.Mathlib.Numerals.{add-one}
 use borrow.Author.Needs.{needs}
-use Rattle.clipper_replay.specs.Samples.{taken}
+use Rattle.samples.specs.Samples.{taken}
 use native.Mathlib.Omega.{arith}
-use Rattle.clipper_replay.proofs.samples.take.Statement.{statement}
-use Rattle.clipper_replay.proofs.samples.take.Tie as tie
+use Rattle.samples.proofs.take.Statement.{statement}
+use Rattle.samples.proofs.take.Tie as tie
 
 abbrev Inv-loop : tie.InvT-loop
 Inv-loop samples₀ bytes i₀ samples i = (i ≤ length samples₀) × (length samples ≡ length samples₀) × (samples ≡ taken bytes i samples₀)
@@ -20,14 +20,11 @@ loop-holds : tie.Need-loop-holds Inv-loop μ-loop
 unfolding taken
 loop-holds c = search needs
 
-mul-u32-at : tie.Need-mul-u32-at Inv-loop μ-loop
-mul-u32-at c = omega arith
+mul-float-at : tie.Need-mul-float-at Inv-loop μ-loop
+mul-float-at c = omega arith
 
-u32-at-requires : tie.Need-u32-at-requires Inv-loop μ-loop
-u32-at-requires c κs = tt
-
-from-bits32-requires : tie.Need-from-bits32-requires Inv-loop μ-loop
-from-bits32-requires c κs = tt
+float-at-requires : tie.Need-float-at-requires Inv-loop μ-loop
+float-at-requires c κs = tt
 
 mul-samples : tie.Need-mul-samples Inv-loop μ-loop
 mul-samples c = omega arith
@@ -58,9 +55,8 @@ take-spec =
     Inv-loop
     μ-loop
     loop-holds
-    mul-u32-at
-    u32-at-requires
-    from-bits32-requires
+    mul-float-at
+    float-at-requires
     mul-samples
     slice-write-samples
     add-i
