@@ -1,9 +1,7 @@
 -- Floats in bytes, as their bits, the lowest byte first. Definitions only.
 -- Assumes nothing.
-use Prim.Native.Nat.{ℕ, zero, suc, _-_, _*_}
-use mathlib.Core.Bool.{cond}
+use Prim.Native.Nat.{ℕ, zero, suc, _-_, _*_, min}
 use mathlib.Core.List.{List}
-use lib.Dec.{ltb}
 use lib.ListN.{length, getD, set, take, drop}
 use lib.Ieee.{Float, nan, binary32, binary64, ofBits, toBits}
 use Rattle.words.specs.Words.{word32At, word64At, put32At, put64At}
@@ -35,10 +33,6 @@ unfoldable pub filled : Float → ℕ → List Float → List Float
 filled x zero buffer = buffer
 filled x (suc n) buffer = set (filled x n buffer) n x
 
--- the smaller of two
-abbrev pub least : ℕ → ℕ → ℕ
-least n m = cond (ltb n m) n m
-
 -- the n bytes from a place on, or as many as there are
 unfoldable pub part : List ℕ → ℕ → ℕ → List ℕ
-part bytes at n = let start = least at (length bytes) in take (least n (length bytes - start)) (drop start bytes)
+part bytes at n = let start = min at (length bytes) in take (min n (length bytes - start)) (drop start bytes)

@@ -1,7 +1,7 @@
 // Floats in bytes, as their bits, the lowest byte first: single ones, and a block's samples.
 // Assumes nothing.
 ghost use mathlib.Core.Path.{_≡_};
-ghost use Prim.Native.Nat.{_≤_};
+ghost use Prim.Native.Nat.{_≤_, min};
 ghost use lib.ListN.{length};
 ghost use Rattle.samples.specs.Samples as Samples;
 
@@ -63,7 +63,7 @@ pub fn fill(samples: &mut [f32], x: f32)
 }
 
 pub fn least(n: usize, m: usize) -> usize
-    ensures { λ r. ⌜ (r ≡ Samples.least n m) × (r ≤ n) × (r ≤ m) ⌝ }
+    ensures { λ r. ⌜ (r ≡ min n m) × (r ≤ n) × (r ≤ m) ⌝ }
 {
     if n < m { n } else { m }
 }
