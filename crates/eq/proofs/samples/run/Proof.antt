@@ -1,0 +1,30 @@
+-- `eq::samples::run` meets its contract. Assumes nothing.
+use Rattle.eq.proofs.Ran.{part-long}
+use borrow.Author.Needs.{needs}
+use Rattle.eq.proofs.samples.run.Statement.{statement}
+use Rattle.eq.proofs.samples.run.Tie as tie
+
+array-borrow-prefix-buffer : tie.Need-array-borrow-prefix-buffer
+array-borrow-prefix-buffer c = search needs
+
+slice-aggregate-run-in : tie.Need-slice-aggregate-run-in
+slice-aggregate-run-in c = part-long _ _ (c .before .before .before .before .pre .1)
+
+run-in-requires : tie.Need-run-in-requires
+run-in-requires c κs = (c .before .before .before .before .pre .0, part-long _ _ (c .before .before .before .before .pre .1))
+
+same-length : tie.Need-same-length
+same-length c = search needs
+
+returns : tie.Need-returns
+returns c = search needs
+
+pub run-spec : {M : Type 1} → statement M
+run-spec =
+    tie.close
+    (tie.spec
+    array-borrow-prefix-buffer
+    slice-aggregate-run-in
+    run-in-requires
+    same-length
+    returns)

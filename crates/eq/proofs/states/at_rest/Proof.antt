@@ -1,0 +1,12 @@
+-- `eq::states::at_rest` meets its contract. Assumes nothing.
+use mathlib.Core.Path.{refl}
+use lib.Ieee.{ofBits}
+use Rattle.eq.proofs.states.at_rest.Statement.{statement}
+use Rattle.eq.proofs.states.at_rest.Tie as tie
+
+returns : tie.Need-returns
+unfolding ofBits
+returns c = refl
+
+pub at-rest-spec : {M : Type 1} → statement M
+at-rest-spec = tie.close (tie.spec returns)

@@ -1,0 +1,129 @@
+// The equaliser's calls by value: make, set, read, reset, block. A refusal changes nothing.
+use crate::Answer;
+use crate::Answered;
+use crate::Equaliser;
+use crate::Reading;
+use crate::samples;
+use crate::states;
+use answer::Check;
+use answer::Decibels;
+use answer::Refusal;
+use eq_settings::Index;
+use eq_settings::Numbers;
+use eq_settings::Setting;
+ghost use mathlib.Core.Path.{_≡_};
+ghost use Rattle.answer.specs.Told as Told;
+ghost use Rattle.eq.specs.Answers.{told, toldRead};
+ghost use Rattle.eq.specs.Calls as Calls;
+
+const BANDS: usize = 16;
+
+fn refused(e: Equaliser, r: Refusal) -> Answered
+    ensures { λ a. ⌜ told (a .equaliser) (a .answer) ≡ Told.refused e r ⌝ }
+{
+    Answered {
+        equaliser: e,
+        answer: Answer::Refused(r),
+    }
+}
+
+fn done(e: Equaliser) -> Answered
+    ensures { λ a. ⌜ told (a .equaliser) (a .answer) ≡ Told.done e ⌝ }
+{
+    Answered {
+        equaliser: e,
+        answer: Answer::Done,
+    }
+}
+
+// An equaliser at rest at that rate, every band passthrough at 0 dB: 5.
+pub fn make(rate: f32) -> Answered
+    ensures { λ r. ⌜ told (r .equaliser) (r .answer) ≡ Calls.make rate ⌝ }
+{
+    if !answer::is_rate(rate) {
+        return refused(states::flat(0.0, 0.0), Refusal::BadRate);
+    }
+    done(states::flat(rate, 1.0))
+}
+
+// A typed setting: 9, 2, 3, 4.
+pub fn set_band(e: Equaliser, i: usize, value: Decibels, numbers: Numbers) -> Answered
+    ensures { λ r. ⌜ told (r .equaliser) (r .answer) ≡ Calls.setBand e i value numbers ⌝ }
+{
+    if !states::acceptable(e) {
+        return refused(e, Refusal::BadState);
+    }
+    if BANDS <= i {
+        return refused(e, Refusal::NoBand);
+    }
+    if !eq_settings::in_its_range(value) {
+        return refused(e, Refusal::OutOfRange);
+    }
+    if !eq_settings::worked(numbers) {
+        return refused(e, Refusal::BadWorkedNumber);
+    }
+    done(states::with_band(e, i, value, numbers))
+}
+
+// A setting by its name, with a value and its worked numbers: 9, 1, 2, 3, 4.
+pub fn set(e: Equaliser, name: &[u8], value: Decibels, numbers: Numbers) -> Answered
+    ensures { λ r. ⌜ told (r .equaliser) (r .answer) ≡ Calls.set e (now (name .entry)) value numbers ⌝ }
+{
+    if !states::acceptable(e) {
+        return refused(e, Refusal::BadState);
+    }
+    let Setting::Band(i, v, n) = eq_settings::find(name, value, numbers) else {
+        return refused(e, Refusal::NoSetting);
+    };
+    set_band(e, i, v, n)
+}
+
+// The value of the band of that name: 9, 1, 2.
+pub fn read(e: Equaliser, name: &[u8]) -> Reading
+    ensures { λ r. ⌜ toldRead e r ≡ Calls.read e (now (name .entry)) ⌝ }
+{
+    if !states::acceptable(e) {
+        return Reading::Refused(Refusal::BadState);
+    }
+    let Index::At(i) = eq_settings::index_of(name) else {
+        return Reading::Refused(Refusal::NoSetting);
+    };
+    if BANDS <= i {
+        return Reading::Refused(Refusal::NoBand);
+    }
+    Reading::Done(states::value_at(e, i))
+}
+
+// Registers 0: 9.
+pub fn reset(e: Equaliser) -> Answered
+    ensures { λ r. ⌜ told (r .equaliser) (r .answer) ≡ Calls.reset e ⌝ }
+{
+    if !states::acceptable(e) {
+        return refused(e, Refusal::BadState);
+    }
+    let s = e.settings;
+    done(Equaliser {
+        settings: s,
+        registers: states::at_rest(),
+    })
+}
+
+// A block of samples, and the buffer for its output: 9, 7, 8, 6.
+pub fn block(e: Equaliser, input: &[f32], output: &mut [f32]) -> Answered
+    ensures { λ r. ⌜ (told (r .equaliser) (r .answer), now (output .exit)) ≡ Calls.block e (now (input .entry)) (now (output .entry)) ⌝ }
+{
+    if !states::acceptable(e) {
+        return refused(e, Refusal::BadState);
+    }
+    let found = answer::check_block(input, output.len());
+    if let Check::Refused(r) = found {
+        return refused(e, r);
+    }
+    let s = e.settings;
+    let m = e.registers;
+    let moved = samples::run(s, m, input, output);
+    done(Equaliser {
+        settings: s,
+        registers: moved,
+    })
+}

@@ -1,0 +1,58 @@
+// A block's samples: to f64, through the bands one after the other, and back by one rounding.
+use eq_sample::Registers;
+use eq_settings::Settings;
+ghost use Prim.Native.Nat.{_≤_};
+ghost use lib.ListN.{length};
+ghost use mathlib.Core.List.{map};
+ghost use mathlib.Core.Path.{_≡_};
+ghost use Rattle.rounding.specs.Casts as Casts;
+ghost use Rattle.eq.specs.Calls.{after, outputs};
+
+fn widen(input: &[f32], buffer: &mut [f64])
+    requires { ⌜ length (now input) ≡ length (now buffer) ⌝ }
+    ensures { λ r. ⌜ now (buffer .exit) ≡ now (input .entry) ⌝ }
+{
+    let mut i: usize = 0;
+    while i < input.len() {
+        buffer[i] = float::widened(input[i]);
+        i += 1;
+    }
+}
+
+fn narrow(buffer: &[f64], output: &mut [f32])
+    requires { ⌜ length (now buffer) ≡ length (now output) ⌝ }
+    ensures { λ r. ⌜ now (output .exit) ≡ map Casts.narrow (now (buffer .entry)) ⌝ }
+{
+    let mut i: usize = 0;
+    while i < buffer.len() {
+        output[i] = float::narrowed(buffer[i]);
+        i += 1;
+    }
+}
+
+// Band by band over a buffer, so that a band's numbers stay at hand.
+fn run_in(
+    s: Settings,
+    m: Registers,
+    input: &[f32],
+    output: &mut [f32],
+    buffer: &mut [f64],
+) -> Registers
+    requires { ⌜ (length (now input) ≡ length (now output)) × (length (now input) ≡ length (now buffer)) ⌝ }
+    ensures { λ r. ⌜ (r ≡ after s m (now (input .entry))) × (now (output .exit) ≡ outputs s m (now (input .entry))) ⌝ }
+{
+    widen(input, buffer);
+    let moved = eq_sample::through(s, m, buffer);
+    narrow(buffer, output);
+    moved
+}
+
+// A block's samples, one after the other.
+pub fn run(s: Settings, m: Registers, input: &[f32], output: &mut [f32]) -> Registers
+    requires { ⌜ (length (now input) ≡ length (now output)) × (length (now input) ≤ 4096) ⌝ }
+    ensures { λ r. ⌜ (r ≡ after s m (now (input .entry))) × (now (output .exit) ≡ outputs s m (now (input .entry))) ⌝ }
+{
+    let mut buffer = [0.0f64; 4096];
+    let n = input.len();
+    run_in(s, m, input, output, &mut buffer[..n])
+}

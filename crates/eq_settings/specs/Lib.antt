@@ -1,0 +1,3 @@
+-- The settings of the equaliser: what a band may hold, and the bands' names.
+pub mod Bands
+pub mod Names
