@@ -3,13 +3,20 @@
 //! Each stage that has a replay program has a module here, with a model written from document 01, the
 //! Rust stage with worked numbers lent, and a generator of call lists; [`replay::named`] finds it.
 pub mod bits;
+pub mod calls;
 pub mod clipper;
 pub mod common;
 pub mod compare;
+pub mod eq;
 pub mod exact;
 pub mod float;
 pub mod gate;
+pub mod limits;
+pub mod numbers;
 pub mod power;
 pub mod random;
 pub mod replay;
+pub mod saturator;
 pub mod shapes;
+pub mod signals;
+pub mod tonestack;

@@ -1,6 +1,9 @@
 //! What the oracle has for each replay program: a list of calls, the bytes of its standard input, and
 //! the answers to a list, the bytes of its standard output.
-use crate::{clipper::Clipper, common::Common, float::Float, gate::NoiseGate, random::Random};
+use crate::{
+    clipper::Clipper, common::Common, eq::Eq, float::Float, gate::NoiseGate, random::Random,
+    saturator::MultibandSaturator, tonestack::ToneStack,
+};
 use std::collections::BTreeMap;
 
 pub trait Replay: Sync {
@@ -22,6 +25,29 @@ pub trait Replay: Sync {
 
 pub type Counts = BTreeMap<&'static str, u64>;
 
+/// What every sample of a buffer for the output is before the call.
+pub const BEFORE: f32 = -1000.0;
+
+/// The answer's number where no call has the number that was read.
+pub const NO_CALL: u32 = u32::MAX;
+
+/// The kind of an answer, by its number.
+pub const fn answered(number: u32) -> &'static str {
+    match number {
+        0 => "answered 0",
+        1 => "answered 1",
+        2 => "answered 2",
+        3 => "answered 3",
+        4 => "answered 4",
+        5 => "answered 5",
+        6 => "answered 6",
+        7 => "answered 7",
+        8 => "answered 8",
+        9 => "answered 9",
+        _ => "answered by all ones",
+    }
+}
+
 /// The stages that have a replay program, by name: `crates/NAME_replay`.
 pub fn named(name: &str) -> Option<&'static dyn Replay> {
     match name {
@@ -29,6 +55,9 @@ pub fn named(name: &str) -> Option<&'static dyn Replay> {
         "common" => Some(&Common),
         "clipper" => Some(&Clipper),
         "noise_gate" => Some(&NoiseGate),
+        "eq" => Some(&Eq::NEW),
+        "tonestack" => Some(&ToneStack::NEW),
+        "multiband_saturator" => Some(&MultibandSaturator::NEW),
         _ => None,
     }
 }

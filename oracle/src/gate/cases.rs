@@ -2,11 +2,15 @@
 use super::{
     call::Call,
     numbers,
-    rules::{Gate, LARGEST_SAMPLE, LONGEST_BLOCK, LONGEST_COUNT},
+    rules::{Gate, LONGEST_COUNT},
     setting::Setting,
+};
+use crate::{
+    limits::{LARGEST_SAMPLE, LONGEST_BLOCK},
+    numbers::{RATES_REFUSED, SAMPLES_REFUSED, SMOOTHING, SMOOTHING_REFUSED, above, below},
+    random::Random,
     signals,
 };
-use crate::random::Random;
 
 /// How many samples of done blocks the stored list has, at least.
 const STORED: u64 = 300_000;
@@ -77,7 +81,7 @@ pub(super) const fn settings(gate: &Gate) -> [Setting; 5] {
     ]
 }
 
-const NAMES: [&str; 5] = ["threshold", "ratio", "attack", "release", "hold"];
+pub(super) const NAMES: [&str; 5] = ["threshold", "ratio", "attack", "release", "hold"];
 
 /// Names that are no setting: near ones, other stages' ones, bytes that are no text, and one too long.
 pub(super) const OTHERS: [&[u8]; 12] = [
@@ -118,7 +122,7 @@ impl<'a> List<'a> {
     }
 
     pub(super) fn drawn(&mut self, gate: &Gate, length: usize) {
-        let samples = signals::drawn(gate, length, self.random);
+        let samples = signals::drawn(gate.factor, length, self.random);
         self.block(samples);
     }
 
@@ -163,18 +167,18 @@ impl<'a> List<'a> {
     }
 
     fn makings(&mut self) {
-        for rate in numbers::RATES_REFUSED {
+        for rate in RATES_REFUSED {
             self.add(Call::Make(rate, 0.5, 0.5));
             self.add(Call::Make(rate, 1.0, f32::NAN));
         }
-        for c in numbers::SMOOTHING_REFUSED {
+        for c in SMOOTHING_REFUSED {
             self.add(Call::Make(48_000.0, c, 0.0));
             self.add(Call::Make(48_000.0, 0.0, c));
             self.add(Call::Block(vec![1.0; 3], 3));
             self.add(Call::Read(b"hold".into()));
         }
         for rate in [8_000.0, 192_000.0, 44_100.0, 11_025.0] {
-            for c in numbers::SMOOTHING {
+            for c in SMOOTHING {
                 self.made(&Gate {
                     rate,
                     rising: c,
@@ -213,7 +217,7 @@ impl<'a> List<'a> {
             self.block(vec![1.0]);
         }
         let state = numbers::HALF_WAY_OPEN;
-        for state in [state, numbers::above(state), numbers::below(state)] {
+        for state in [state, above(state), below(state)] {
             self.add(Call::Load(Gate { state, ..QUICK }));
             self.block(vec![1.0, 0.5]);
         }
@@ -250,16 +254,16 @@ impl<'a> List<'a> {
         for largest in [LARGEST_SAMPLE, -LARGEST_SAMPLE] {
             self.block(vec![largest; 4]);
         }
-        for sample in numbers::SAMPLES_REFUSED {
+        for sample in SAMPLES_REFUSED {
             for place in [0, 1, 7, 30] {
-                let mut samples = signals::drawn(&QUICK, 31, self.random);
+                let mut samples = signals::drawn(QUICK.factor, 31, self.random);
                 samples[place] = sample;
                 samples[30] = sample;
                 self.add(Call::Block(samples, 31));
             }
         }
         let mut samples = vec![0.5; LONGEST_BLOCK];
-        samples[LONGEST_BLOCK - 1] = numbers::above(LARGEST_SAMPLE);
+        samples[LONGEST_BLOCK - 1] = above(LARGEST_SAMPLE);
         self.add(Call::Block(samples, LONGEST_BLOCK));
         self.drawn(&QUICK, 100);
     }
@@ -281,18 +285,5 @@ impl<'a> List<'a> {
             ..QUICK
         }));
         self.drawn(&QUICK, 200);
-    }
-
-    pub(super) fn refused_by_9(&mut self, gate: Gate) {
-        self.add(Call::Load(gate));
-        self.set(Setting::Hold(f32::NAN), 0.0);
-        self.add(Call::SetNamed(b"none".into(), 1.0, 1.0));
-        let name = self.random.pick(&NAMES);
-        self.add(Call::Read(name.into()));
-        self.add(Call::Read(b"none".into()));
-        self.add(Call::Reset);
-        self.add(Call::Block(vec![0.5, f32::NAN], 2));
-        let places = self.random.below(3) as usize;
-        self.add(Call::Block(vec![0.5], places));
     }
 }

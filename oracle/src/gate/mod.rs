@@ -11,38 +11,16 @@ mod rules;
 mod rust;
 mod session;
 mod setting;
-mod signals;
 
 use crate::{
     bits::bits32,
     random::Random,
-    replay::{Counts, Replay},
+    replay::{BEFORE, Counts, NO_CALL, Replay, answered},
 };
 use call::Call;
 use rules::{Gate, Told, done, refused};
 use rust::Rust;
 use setting::Setting;
-
-/// What every sample of a buffer for the output is before the call.
-const BEFORE: f32 = -1000.0;
-
-/// The number where no call has the number that was read.
-const NO_CALL: u32 = u32::MAX;
-
-/// Kinds of answers, by number.
-const ANSWERS: [&str; 11] = [
-    "answered 0",
-    "answered 1",
-    "answered 2",
-    "answered 3",
-    "answered 4",
-    "answered 5",
-    "answered 6",
-    "answered 7",
-    "answered 8",
-    "answered 9",
-    "answered by all ones",
-];
 
 /// The gate that calls are made on: document 01's, and the Rust's while 9 accepts it.
 struct Held {
@@ -165,9 +143,7 @@ impl Replay for NoiseGate {
         for (call, _) in call::list(calls) {
             let (told, output) = held.told(&call).expect("a list that was answered");
             *counts.entry(call.name()).or_default() += 1;
-            *counts
-                .entry(ANSWERS[told.number.min(10) as usize])
-                .or_default() += 1;
+            *counts.entry(answered(told.number)).or_default() += 1;
             if told.number == 0 {
                 *counts.entry("samples of done blocks").or_default() += output.len() as u64;
             }

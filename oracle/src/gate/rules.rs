@@ -1,12 +1,11 @@
 //! Document 01's "Gate" and "The answers": a gate's numbers, what each call tells, and one sample.
 use super::setting::Setting;
+use crate::limits::{self, LARGEST_SAMPLE, is_rate, is_smoothing};
 
-/// The hold of a made gate and the longest one, in milliseconds; the counter's bound; the largest sample.
+/// The hold of a made gate and the longest one, in milliseconds; the counter's bound.
 const MADE_HOLD: f32 = 50.0;
 pub const LONGEST_HOLD: f32 = 500.0;
 pub const LONGEST_COUNT: u64 = 96_000;
-pub const LARGEST_SAMPLE: f32 = 64.0;
-pub const LONGEST_BLOCK: usize = 4096;
 /// 2^-14.
 pub const LOWEST_FACTOR: f32 = 1.0 / 16384.0;
 
@@ -54,18 +53,6 @@ pub const fn refused(gate: Gate, number: u32) -> Told {
         number,
         ..done(gate)
     }
-}
-
-fn is_rate(rate: f32) -> bool {
-    (8_000.0..=192_000.0).contains(&rate) && rate.fract() == 0.0
-}
-
-pub fn is_smoothing(c: f32) -> bool {
-    (0.0..1.0).contains(&c)
-}
-
-pub fn is_refused(sample: f32) -> bool {
-    sample.is_nan() || sample.abs() > LARGEST_SAMPLE
 }
 
 impl Gate {
@@ -200,18 +187,12 @@ pub fn reset(gate: Gate) -> Told {
 
 /// What refuses a block, if anything: 9, 7, 8, 6.
 pub fn block_refused(gate: Gate, input: &[f32], places: usize) -> Option<Told> {
-    let number = if !gate.is_acceptable() {
-        9
-    } else if input.len() != places {
-        7
-    } else if input.len() > LONGEST_BLOCK {
-        8
-    } else {
-        let place = input.iter().position(|&sample| is_refused(sample))?;
-        return Some(Told {
-            place: place as u64,
-            ..refused(gate, 6)
-        });
-    };
-    Some(refused(gate, number))
+    if !gate.is_acceptable() {
+        return Some(refused(gate, 9));
+    }
+    let (number, place) = limits::block_refused(input, places)?;
+    Some(Told {
+        place,
+        ..refused(gate, number)
+    })
 }

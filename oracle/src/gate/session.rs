@@ -1,9 +1,14 @@
 //! Sessions: a gate carried through calls drawn at random.
 use super::{
     call::Call,
-    cases::{List, OTHERS, settings},
+    cases::{List, NAMES, OTHERS, settings},
     numbers,
-    rules::{Gate, LONGEST_BLOCK},
+    rules::Gate,
+    setting::Setting,
+};
+use crate::{
+    limits::LONGEST_BLOCK,
+    numbers::{RATES_REFUSED, SMOOTHING_REFUSED, refused_sample},
     signals,
 };
 
@@ -39,8 +44,8 @@ impl List<'_> {
 
     /// A making that is refused, and a call on what it gives.
     fn refused_making(&mut self) {
-        let rate = self.random.pick(&numbers::RATES_REFUSED);
-        let c = self.random.pick(&numbers::SMOOTHING_REFUSED);
+        let rate = self.random.pick(&RATES_REFUSED);
+        let c = self.random.pick(&SMOOTHING_REFUSED);
         let making = match self.random.below(3) {
             0 => Call::Make(rate, 0.5, c),
             1 => Call::Make(48_000.0, 0.5, c),
@@ -73,7 +78,7 @@ impl List<'_> {
     fn refused(&mut self, gate: &Gate) {
         match self.random.below(50) {
             0 => {
-                let samples = signals::drawn(gate, LONGEST_BLOCK + 1, self.random);
+                let samples = signals::drawn(gate.factor, LONGEST_BLOCK + 1, self.random);
                 self.add(Call::Block(samples, LONGEST_BLOCK + 1));
             }
             1..10 => {
@@ -85,15 +90,29 @@ impl List<'_> {
                 self.set(setting, setting.worked().unwrap_or(0.0));
             }
             30..40 => {
-                let mut samples = signals::drawn(gate, 20, self.random);
-                samples[self.random.below(20) as usize] = numbers::refused_sample(self.random);
+                let mut samples = signals::drawn(gate.factor, 20, self.random);
+                samples[self.random.below(20) as usize] = refused_sample(self.random);
                 self.add(Call::Block(samples, 20));
             }
             _ => {
-                let samples = signals::drawn(gate, 10, self.random);
+                let samples = signals::drawn(gate.factor, 10, self.random);
                 let places = self.random.below(10) as usize;
                 self.add(Call::Block(samples, places));
             }
         }
+    }
+
+    /// Every call on a gate that 9 refuses, some refused by more.
+    pub(super) fn refused_by_9(&mut self, gate: Gate) {
+        self.add(Call::Load(gate));
+        self.set(Setting::Hold(f32::NAN), 0.0);
+        self.add(Call::SetNamed(b"none".into(), 1.0, 1.0));
+        let name = self.random.pick(&NAMES);
+        self.add(Call::Read(name.into()));
+        self.add(Call::Read(b"none".into()));
+        self.add(Call::Reset);
+        self.add(Call::Block(vec![0.5, f32::NAN], 2));
+        let places = self.random.below(3) as usize;
+        self.add(Call::Block(vec![0.5], places));
     }
 }

@@ -1,5 +1,6 @@
 //! Document 01's settings of a gate: what each may be, and what it changes.
-use super::rules::{Gate, LONGEST_HOLD, LOWEST_FACTOR, is_smoothing};
+use super::rules::{Gate, LONGEST_HOLD, LOWEST_FACTOR};
+use crate::limits::is_smoothing;
 
 /// A setting with its value and the worked number that it takes.
 #[derive(Clone, Copy, Debug)]

@@ -1,11 +1,12 @@
-//! Samples by what they try on a gate.
-use super::{
+//! Samples that a block takes, by what they try on a stage. What is loud to it is a size that they lie
+//! around: of a gate, its threshold's factor.
+use crate::{
+    limits::LARGEST_SAMPLE,
     numbers::{above, below},
-    rules::{Gate, LARGEST_SAMPLE},
+    random::Random,
 };
-use crate::random::Random;
 
-type Signal = fn(&Gate, usize, &mut Random) -> Vec<f32>;
+type Signal = fn(f32, usize, &mut Random) -> Vec<f32>;
 
 const SIGNALS: [Signal; 8] = [
     bursts,
@@ -14,13 +15,13 @@ const SIGNALS: [Signal; 8] = [
     noise,
     silence,
     faint,
-    at_the_threshold,
+    at_the_border,
     any,
 ];
 
 /// So many samples that a block takes, of a kind drawn at random.
-pub fn drawn(gate: &Gate, length: usize, random: &mut Random) -> Vec<f32> {
-    random.pick(&SIGNALS)(gate, length, random)
+pub fn drawn(loud: f32, length: usize, random: &mut Random) -> Vec<f32> {
+    random.pick(&SIGNALS)(loud, length, random)
 }
 
 /// From -1 to 1.
@@ -28,20 +29,20 @@ fn unit(random: &mut Random) -> f32 {
     random.between(-(1 << 23), 1 << 23) as f32 / (1 << 23) as f32
 }
 
-/// A size around the threshold's factor: from a quarter of it to eight times it.
-fn around(gate: &Gate, random: &mut Random) -> f32 {
+/// A size around the loud one: from a quarter of it to eight times it.
+fn around(loud: f32, random: &mut Random) -> f32 {
     let power = random.between(-2, 3) as i32;
-    (gate.factor * 2f32.powi(power)).min(LARGEST_SAMPLE)
+    (loud * 2f32.powi(power)).min(LARGEST_SAMPLE)
 }
 
-/// Speech: words of noise above the threshold, and gaps of nothing, or of little, between them.
-fn bursts(gate: &Gate, length: usize, random: &mut Random) -> Vec<f32> {
+/// Speech: words of loud noise, and gaps of nothing, or of little, between them.
+fn bursts(loud: f32, length: usize, random: &mut Random) -> Vec<f32> {
     let mut samples = Vec::with_capacity(length);
     while samples.len() < length {
-        let loud = around(gate, random).max(gate.factor);
+        let top = around(loud, random).max(loud);
         let word = random.below(24) as usize;
-        samples.extend((0..word).map(|_| loud * unit(random)));
-        let rest = random.pick(&[0.0, -0.0, gate.factor / 512.0, 1e-40]);
+        samples.extend((0..word).map(|_| top * unit(random)));
+        let rest = random.pick(&[0.0, -0.0, loud / 512.0, 1e-40]);
         let gap = random.below(60) as usize;
         samples.extend((0..gap).map(|_| rest * unit(random)));
     }
@@ -50,8 +51,8 @@ fn bursts(gate: &Gate, length: usize, random: &mut Random) -> Vec<f32> {
 }
 
 /// A wave that swells and fades: half turns of 1 - x^2, since a sine's bits differ between machines.
-fn wave(gate: &Gate, length: usize, random: &mut Random) -> Vec<f32> {
-    let top = around(gate, random);
+fn wave(loud: f32, length: usize, random: &mut Random) -> Vec<f32> {
+    let top = around(loud, random);
     let turn = random.between(3, 200);
     let swell = random.between(50, 3_000);
     let half = |at: i64, length: i64| {
@@ -64,16 +65,16 @@ fn wave(gate: &Gate, length: usize, random: &mut Random) -> Vec<f32> {
         .collect()
 }
 
-fn noise(gate: &Gate, length: usize, random: &mut Random) -> Vec<f32> {
-    let top = around(gate, random);
+fn noise(loud: f32, length: usize, random: &mut Random) -> Vec<f32> {
+    let top = around(loud, random);
     (0..length).map(|_| top * unit(random)).collect()
 }
 
 /// Zeros of either sign, and now and then one loud sample.
-fn silence(gate: &Gate, length: usize, random: &mut Random) -> Vec<f32> {
-    let loud = (gate.factor * 4.0).min(LARGEST_SAMPLE);
+fn silence(loud: f32, length: usize, random: &mut Random) -> Vec<f32> {
+    let top = (loud * 4.0).min(LARGEST_SAMPLE);
     let sample = |random: &mut Random| match random.below(40) {
-        0 => loud,
+        0 => top,
         1..8 => -0.0,
         _ => 0.0,
     };
@@ -81,22 +82,22 @@ fn silence(gate: &Gate, length: usize, random: &mut Random) -> Vec<f32> {
 }
 
 /// Subnormal samples, and the smallest normal ones.
-fn faint(_: &Gate, length: usize, random: &mut Random) -> Vec<f32> {
+fn faint(_: f32, length: usize, random: &mut Random) -> Vec<f32> {
     let sample = |random: &mut Random| random.bits32() & 0x80ff_ffff;
     (0..length)
         .map(|_| f32::from_bits(sample(random)))
         .collect()
 }
 
-/// The threshold's factor itself, and its neighbours.
-fn at_the_threshold(gate: &Gate, length: usize, random: &mut Random) -> Vec<f32> {
-    let sizes = [gate.factor, above(gate.factor), below(gate.factor), 0.0];
+/// The loud size itself, and its neighbours.
+fn at_the_border(loud: f32, length: usize, random: &mut Random) -> Vec<f32> {
+    let sizes = [loud, above(loud), below(loud), 0.0];
     let sample = |random: &mut Random| random.pick(&sizes) * random.pick(&[1.0, -1.0]);
     (0..length).map(|_| sample(random)).collect()
 }
 
 /// Any bits up to 64 in size, the border among them.
-fn any(_: &Gate, length: usize, random: &mut Random) -> Vec<f32> {
+fn any(_: f32, length: usize, random: &mut Random) -> Vec<f32> {
     let sample = |random: &mut Random| {
         let size = random.below(u64::from(LARGEST_SAMPLE.to_bits()) + 1);
         let bits = match random.below(16) {

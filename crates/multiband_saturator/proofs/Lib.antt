@@ -1,0 +1,3 @@
+-- What a call tells, and what a refusal leaves.
+pub mod Answers
+pub mod Refusals

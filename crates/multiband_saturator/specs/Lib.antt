@@ -1,0 +1,3 @@
+-- The multiband saturator: what its calls tell, and the calls.
+pub mod Answers
+pub mod Calls

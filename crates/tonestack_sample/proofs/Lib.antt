@@ -1,0 +1,2 @@
+-- The alphas worked out once.
+pub mod Once

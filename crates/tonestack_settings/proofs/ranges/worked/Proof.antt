@@ -1,0 +1,50 @@
+-- `tonestack_settings::ranges::worked` meets its contract. Assumes nothing.
+use Rattle.tonestack_settings.specs.Ranges.{worked}
+use borrow.Author.Needs.{needs}
+use Rattle.tonestack_settings.proofs.ranges.worked.Statement.{statement}
+use Rattle.tonestack_settings.proofs.ranges.worked.Tie as tie
+
+enum-told : tie.Need-enum-told
+enum-told c = search needs
+
+enum-told-2 : tie.Need-enum-told-2
+enum-told-2 c = search needs
+
+enum-told-3 : tie.Need-enum-told-3
+enum-told-3 c = search needs
+
+enum-known-t : tie.Need-enum-known-t
+enum-known-t c = search needs
+
+is-factor-requires : tie.Need-is-factor-requires
+is-factor-requires c κs = search needs
+
+returns : tie.Need-returns
+unfolding worked
+returns c = cc
+
+returns-2 : tie.Need-returns-2
+unfolding worked
+returns-2 c = cc
+
+returns-3 : tie.Need-returns-3
+unfolding worked
+returns-3 c = cc
+
+returns-4 : tie.Need-returns-4
+unfolding worked
+returns-4 c = cc
+
+pub worked-spec : {M : Type 1} → statement M
+worked-spec =
+    tie.close
+    (tie.spec
+    enum-told
+    enum-told-2
+    enum-told-3
+    enum-known-t
+    is-factor-requires
+    returns
+    returns-2
+    returns-3
+    returns-4)

@@ -1,0 +1,189 @@
+//! A stage carried through calls, by document 01 and by the Rust, which must say the same.
+use super::{
+    Call, Rules, Rust,
+    number::{self, Number, Taker, singles},
+};
+use crate::{
+    bits::bits32,
+    limits::block_refused,
+    replay::{BEFORE, NO_CALL},
+};
+
+/// What a call tells: document 01's number, value and place, and what stands behind them.
+#[derive(Default)]
+pub struct Told {
+    pub number: u32,
+    value: f32,
+    place: u64,
+    behind: Vec<Number>,
+}
+
+impl Told {
+    fn refused(number: u32) -> Self {
+        Self {
+            number,
+            ..Self::default()
+        }
+    }
+
+    pub fn bytes(&self) -> Vec<u8> {
+        let mut bytes = number::told(&[Number::Whole(self.number), Number::Single(self.value)]);
+        bytes.extend(self.place.to_le_bytes());
+        bytes.extend(number::told(&self.behind));
+        bytes
+    }
+}
+
+/// The state that calls are made on: document 01's, and the Rust's while 9 accepts it.
+pub struct Held<S: Rules> {
+    pub state: S,
+    rust: Option<S::Rust>,
+}
+
+impl<S: Rules> Default for Held<S> {
+    fn default() -> Self {
+        Self::new(S::default())
+    }
+}
+
+impl<S: Rules> Held<S> {
+    fn new(state: S) -> Self {
+        let rust = state.is_acceptable().then(|| S::Rust::holding(&state));
+        Self { state, rust }
+    }
+
+    pub fn told(&mut self, call: &Call) -> Result<Told, String> {
+        match call {
+            Call::Make(model, rate, worked) => Ok(self.make(*model, *rate, Taker(worked))),
+            Call::Load(numbers) => {
+                *self = Self::new(S::of(Taker(numbers)));
+                Ok(Told::default())
+            }
+            Call::Set(which, value, worked) => self.set(&S::name(*which), *value, Taker(worked)),
+            Call::SetNamed(name, value, worked) => self.set(name, *value, Taker(worked)),
+            Call::Read(name) => self.read(name),
+            Call::Reset => self.reset(),
+            Call::Block(input, places) => self.block(input, *places),
+            Call::Tell => Ok(Told {
+                behind: self.state.numbers(),
+                ..Told::default()
+            }),
+            Call::Unknown(_) => Ok(Told::refused(NO_CALL)),
+        }
+    }
+
+    /// A refused making gives a state whose numbers are all 0.
+    fn make(&mut self, model: u32, rate: f32, worked: Taker) -> Told {
+        let (state, number) = match S::make(model, rate, worked) {
+            Ok(state) => (state, 0),
+            Err(number) => (S::default(), number),
+        };
+        *self = Self::new(state);
+        Told::refused(number)
+    }
+
+    fn set(&mut self, name: &[u8], value: f32, worked: Taker) -> Result<Told, String> {
+        let Some(rust) = &mut self.rust else {
+            return Ok(Told::refused(9));
+        };
+        let (state, number) = match self.state.set(name, value, worked) {
+            Ok(state) => (state, 0),
+            Err(number) => (self.state.clone(), number),
+        };
+        // The Rust looks at no worked number.
+        if number != 4 && !S::Rust::takes_otherwise(value) {
+            let refused = match std::str::from_utf8(name) {
+                Ok(name) => rust.stage().set_parameter(name, value).is_err(),
+                Err(_) => true,
+            };
+            if refused != (number != 0) {
+                return Err(format!(
+                    "setting {name:?} to {value}: {number}, the Rust refuses: {refused}"
+                ));
+            }
+        }
+        rust.lend(&state);
+        self.state = state;
+        self.agrees()?;
+        Ok(Told::refused(number))
+    }
+
+    fn read(&mut self, name: &[u8]) -> Result<Told, String> {
+        let Some(rust) = &mut self.rust else {
+            return Ok(Told::refused(9));
+        };
+        let read = self.state.read(name);
+        let given = std::str::from_utf8(name).map(|name| rust.stage().get_parameter(name));
+        let same = match (read, given) {
+            (Ok(value), Ok(Ok(given))) => bits32(value) == bits32(given),
+            (Err(_), Ok(Err(_)) | Err(_)) => true,
+            _ => false,
+        };
+        if !same {
+            return Err(format!("reading {name:?}: {read:?}, the Rust {given:?}"));
+        }
+        Ok(match read {
+            Ok(value) => Told {
+                value,
+                ..Told::default()
+            },
+            Err(number) => Told::refused(number),
+        })
+    }
+
+    fn reset(&mut self) -> Result<Told, String> {
+        let Some(rust) = &mut self.rust else {
+            return Ok(Told::refused(9));
+        };
+        rust.stage().reset();
+        self.state = self.state.clone().at_rest();
+        self.agrees()?;
+        Ok(Told::default())
+    }
+
+    /// 9, 7, 8, 6.
+    fn block(&mut self, input: &[f32], places: usize) -> Result<Told, String> {
+        let output = singles(&vec![BEFORE; places]);
+        let Some(rust) = &mut self.rust else {
+            return Ok(Told {
+                behind: output,
+                ..Told::refused(9)
+            });
+        };
+        if let Some((number, place)) = block_refused(input, places) {
+            return Ok(Told {
+                place,
+                behind: output,
+                ..Told::refused(number)
+            });
+        }
+        let mut output = input.to_vec();
+        rust.block(&self.state, &mut output);
+        for (place, (&input, &output)) in input.iter().zip(&output).enumerate() {
+            let rule = self.state.sample(input);
+            if bits32(rule) != bits32(output) {
+                return Err(format!(
+                    "sample {place}, {input}: {rule}, the Rust {output}"
+                ));
+            }
+        }
+        self.agrees()?;
+        Ok(Told {
+            behind: singles(&output),
+            ..Told::default()
+        })
+    }
+
+    /// Whether the Rust holds the numbers that document 01 says.
+    fn agrees(&self) -> Result<(), String> {
+        let Some(rust) = &self.rust else {
+            return Ok(());
+        };
+        let held = rust.held(&self.state);
+        if number::told(&held.numbers()) == number::told(&self.state.numbers()) {
+            Ok(())
+        } else {
+            Err(format!("{:?}, the Rust {held:?}", self.state))
+        }
+    }
+}

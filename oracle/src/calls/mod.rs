@@ -1,0 +1,179 @@
+//! Calls on a stage that is made, set, read, reset and run: the equaliser, the tone stack, the saturator.
+//!
+//! A list begins with a state as a refused making leaves it, and each call is on the state that the one
+//! before it left. What a call takes, and what an answer has, is said at the top of each stage's
+//! `crates/STAGE_replay/src/main.rt`; the three have the same layout.
+mod call;
+mod held;
+mod list;
+pub mod number;
+mod session;
+
+use crate::{
+    random::Random,
+    replay::{Counts, Replay, answered},
+};
+pub use call::Call;
+use held::Held;
+pub use list::List;
+use number::{Number, Taker};
+use rustortion_core::amp::stages::Stage;
+use std::{fmt::Debug, marker::PhantomData};
+
+/// A stage's state as document 01 has it, and what each call does to it. A refusal is its number.
+pub trait Rules: Clone + Debug + Default {
+    type Rust: Rust<Self>;
+
+    /// How many bytes a state's numbers have.
+    const BYTES: usize;
+
+    fn make(model: u32, rate: f32, worked: Taker) -> Result<Self, u32>;
+
+    /// What 9 asks.
+    fn is_acceptable(&self) -> bool;
+
+    /// The name of a setting's number.
+    fn name(which: u32) -> Vec<u8>;
+
+    /// Sets on a state that 9 accepts.
+    fn set(&self, name: &[u8], value: f32, worked: Taker) -> Result<Self, u32>;
+
+    /// Reads from a state that 9 accepts.
+    fn read(&self, name: &[u8]) -> Result<f32, u32>;
+
+    fn at_rest(self) -> Self;
+
+    fn sample(&mut self, input: f32) -> f32;
+
+    fn numbers(&self) -> Vec<Number>;
+
+    fn of(numbers: Taker) -> Self;
+}
+
+/// A Rust stage with worked numbers lent.
+pub trait Rust<S> {
+    /// A stage that holds these numbers, registers too.
+    fn holding(state: &S) -> Self;
+
+    fn stage(&mut self) -> &mut dyn Stage;
+
+    /// The Rust works numbers out anew when a setting is set, so they are lent again.
+    fn lend(&mut self, state: &S);
+
+    /// The numbers and registers that the Rust has, in the places of the state's own.
+    fn held(&self, state: &S) -> S;
+
+    /// Whether document 01 and the Rust differ about this value.
+    fn takes_otherwise(_value: f32) -> bool {
+        false
+    }
+
+    fn block(&mut self, _state: &S, samples: &mut [f32]) {
+        for sample in samples {
+            *sample = self.stage().process(*sample);
+        }
+    }
+}
+
+/// A setting as a call takes it.
+#[derive(Clone, Debug)]
+pub struct Setting {
+    pub which: u32,
+    pub value: f32,
+    pub worked: Vec<u8>,
+}
+
+/// What lists are made of.
+pub trait Drawn: Rules {
+    /// The stored list's seed, and how many samples its done blocks have, at least.
+    const SEED: u64;
+    const STORED: u64;
+
+    /// A state that 9 accepts, in the middle of its work.
+    fn drawn(random: &mut Random) -> Self;
+
+    /// The making and the settings that give its settings.
+    fn making(&self) -> Call;
+    fn settings(&self) -> Vec<Setting>;
+
+    /// Makings whose worked numbers are at their limits, or are refused.
+    fn makings() -> Vec<Call>;
+
+    /// Settings with their values and worked numbers at the limits, and outside them.
+    fn at_the_limits() -> Vec<Setting>;
+
+    /// The state spoilt in one number, in every way that 9 has.
+    fn spoilt(&self) -> Vec<Self>;
+
+    /// Names: settings', near ones and others.
+    fn names(random: &mut Random) -> Vec<Vec<u8>>;
+
+    /// One of the setting's names.
+    fn named(which: u32, _random: &mut Random) -> Vec<u8> {
+        Self::name(which)
+    }
+
+    /// What only this stage has.
+    fn borders(list: &mut List<Self>);
+}
+
+/// The replay of a stage that has these calls.
+pub struct Called<S>(PhantomData<fn() -> S>);
+
+impl<S> Called<S> {
+    pub const NEW: Self = Self(PhantomData);
+}
+
+impl<S: Drawn> Replay for Called<S> {
+    fn stored(&self) -> Vec<u8> {
+        list::stored::<S>()
+    }
+
+    fn generated(&self, random: &mut Random, cases: u64) -> Vec<u8> {
+        list::generated::<S>(random, cases)
+    }
+
+    fn answers(&self, calls: &[u8]) -> Result<Vec<u8>, String> {
+        let mut held = Held::<S>::default();
+        let mut answers = Vec::with_capacity(calls.len() * 2);
+        for call in call::list(calls, S::BYTES) {
+            answers.extend(held.told(&call)?.bytes());
+        }
+        Ok(answers)
+    }
+
+    fn counts(&self, calls: &[u8]) -> Counts {
+        let mut counts = Counts::new();
+        let mut held = Held::<S>::default();
+        for call in call::list(calls, S::BYTES) {
+            let told = held.told(&call).expect("a list that was answered");
+            *counts.entry(call.name()).or_default() += 1;
+            *counts.entry(answered(told.number)).or_default() += 1;
+            if let (Call::Block(input, _), 0) = (&call, told.number) {
+                *counts.entry("samples of done blocks").or_default() += input.len() as u64;
+            }
+        }
+        counts
+    }
+
+    fn told(&self, calls: &[u8], answer_byte: usize) -> String {
+        let mut held = Held::<S>::default();
+        let mut left = answer_byte;
+        for (index, call) in call::list(calls, S::BYTES).enumerate() {
+            let before = held.state.clone();
+            let told = match held.told(&call) {
+                Ok(told) => told,
+                Err(reason) => return reason,
+            };
+            let length = told.bytes().len();
+            if left < length {
+                return format!(
+                    "call {index}, byte {left} of its answer: {call:?} on {before:?}, answered {}",
+                    told.number
+                );
+            }
+            left -= length;
+        }
+        "the list has ended".into()
+    }
+}
