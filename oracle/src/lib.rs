@@ -14,6 +14,7 @@ pub mod gate;
 pub mod limits;
 pub mod numbers;
 pub mod power;
+pub mod program;
 pub mod random;
 pub mod replay;
 pub mod saturator;

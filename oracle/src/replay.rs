@@ -1,8 +1,8 @@
 //! What the oracle has for each replay program: a list of calls, the bytes of its standard input, and
 //! the answers to a list, the bytes of its standard output.
 use crate::{
-    clipper::Clipper, common::Common, eq::Eq, float::Float, gate::NoiseGate, random::Random,
-    saturator::MultibandSaturator, tonestack::ToneStack,
+    clipper::Clipper, common::Common, eq::Eq, float::Float, gate::NoiseGate, program::Program,
+    random::Random, saturator::MultibandSaturator, tonestack::ToneStack,
 };
 use std::collections::BTreeMap;
 
@@ -48,7 +48,7 @@ pub const fn answered(number: u32) -> &'static str {
     }
 }
 
-/// The stages that have a replay program, by name: `crates/NAME_replay`.
+/// The stages that have a replay program, by name: `crates/NAME_replay`; that of `program` is `crates/gate`.
 pub fn named(name: &str) -> Option<&'static dyn Replay> {
     match name {
         "float" => Some(&Float),
@@ -58,6 +58,7 @@ pub fn named(name: &str) -> Option<&'static dyn Replay> {
         "eq" => Some(&Eq::NEW),
         "tonestack" => Some(&ToneStack::NEW),
         "multiband_saturator" => Some(&MultibandSaturator::NEW),
+        "program" => Some(&Program),
         _ => None,
     }
 }

@@ -10,7 +10,7 @@ use Rattle.rounding.specs.Casts.{narrow}
 use Rattle.eq_settings.specs.declared.Settings.{Settings}
 use Rattle.eq_sample.specs.Row as Row
 use Rattle.eq_sample.specs.declared.Registers.{Registers}
-use Rattle.eq.specs.Calls.{output, after, outputs}
+use Rattle.eq.specs.Calls.{after, outputs}
 use Rattle.eq.proofs.Each.{seen-through}
 
 -- the part of a buffer that a block fills
@@ -21,7 +21,7 @@ module _ (s : Settings) (m : Registers) (xs : List Float) where
   pub ran : {wide given : List Float} {r : Registers} {out : List Float}
       → wide ≡ xs → (r, given) ≡ Row.through s m wide → out ≡ map narrow given
       → (r ≡ after s m xs) × (out ≡ outputs s m xs)
-  unfolding output
+  unfolding Row.rounded
   ran {wide} {given} {r} {out} w t n =
       let e : (r, given) ≡ Row.through s m xs = rw w at t in
       let g : given ≡ Row.through s m xs .1 = ap (λ (p : Registers × List Float). p .1) e in

@@ -5,7 +5,6 @@ use mathlib.Core.List.{List}
 use lib.Dec.{ltb}
 use lib.ListN.{length}
 use lib.Ieee.{Float}
-use Rattle.rounding.specs.Casts.{narrow}
 use Rattle.answer.specs.Checks.{isRate, checkBlock}
 use Rattle.answer.specs.Told.{Told, refused, done, doneWith, unless}
 use Rattle.answer.specs.declared.Decibels.{Decibels}
@@ -62,17 +61,13 @@ unfoldable pub reset : Equaliser → Told Equaliser
 reset e = unless (acceptable e) (refused e BadState) (done (equaliserOf (e .settings) atRest))
 
 -- ---- block: 9, 7, 8, 6
--- a sample goes through bands 0 to 15, then one rounding to f32
-unfoldable pub output : Settings → Registers → Float → Float
-output s m x = narrow (Row.output s m x)
-
 module _ (s : Settings) (m : Registers) (xs : List Float) where
   -- one sample after the other: what they leave, and what they give
   abbrev pub after : Registers
   after = stateAfter (Row.next s) m xs
 
   abbrev pub outputs : List Float
-  outputs = outAfter (Row.next s) (output s) m xs
+  outputs = outAfter (Row.next s) (Row.rounded s) m xs
 
 -- what is told, and what the buffer for the output holds afterwards; a refusal leaves it as it was
 unfoldable pub blockChecked : Equaliser → List Float → List Float → Check → Told Equaliser × List Float

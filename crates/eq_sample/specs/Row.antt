@@ -2,6 +2,7 @@
 -- Assumes nothing.
 use mathlib.Core.List.{List, [], _∷_}
 use lib.Ieee.{Float}
+use Rattle.rounding.specs.Casts.{narrow}
 use Rattle.fold.specs.Fold.{stateAfter, outAfter}
 use Rattle.eq_settings.specs.declared.Band.{Band}
 use Rattle.eq_settings.specs.declared.Settings.{Settings}
@@ -27,6 +28,10 @@ next s m x = record { bands = rowNext (s .bands) (m .bands) x }
 
 unfoldable pub output : Settings → Registers → Float → Float
 output s m x = rowOutput (s .bands) (m .bands) x
+
+-- then one rounding to f32
+unfoldable pub rounded : Settings → Registers → Float → Float
+rounded s m x = narrow (output s m x)
 
 -- one sample after the other
 abbrev pub through : Settings → Registers → List Float → Registers × List Float

@@ -17,7 +17,7 @@ flavoured-requires c κs = search needs
 
 returns : tie.Need-returns
 unfolding finished f32 ofBits
-returns c = cc
+returns c = rw (c .flavoured .ensures, c .before .model-of .ensures, c .before .before .fma32 .ensures)
 
 pub finished-spec : {M : Type 1} → statement M
 finished-spec = tie.close (tie.spec fma32-requires model-of-requires flavoured-requires returns)

@@ -21,7 +21,11 @@ fma32-requires-2 c κs = search needs
 
 returns : tie.Need-returns
 unfolding mixed
-returns c = cc
+returns c =
+    let high = c .before in
+    let low = high .before in
+    let middle = low .before in
+    rw (c .fma322 .ensures, high .gain3 .ensures, low .fma32 .ensures, middle .gain2 .ensures, middle .before .gain .ensures)
 
 pub mixed-spec : {M : Type 1} → statement M
 mixed-spec =

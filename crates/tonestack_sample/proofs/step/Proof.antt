@@ -12,7 +12,7 @@ step-with-requires c κs = search needs
 
 returns : tie.Need-returns
 unfolding step
-returns c = cc
+returns c = rw (c .step-with .ensures, c .before .alphas-of .ensures)
 
 pub step-spec : {M : Type 1} → statement M
 step-spec = tie.close (tie.spec alphas-of-requires step-with-requires returns)

@@ -36,7 +36,16 @@ settled32-requires-5 c κs = search needs
 
 returns : tie.Need-returns
 unfolding stepWith nextWith outputWith presence mix treble bass blocked dc
-returns c = cc
+returns c =
+    let finish = c .before in
+    let fourth = finish .before in
+    let third = fourth .before in
+    let second = third .before in
+    let first = second .before in
+    let shelf = first .before in
+    let mix = shelf .before in
+    let treble = mix .before in
+    rw (c .settled325 .ensures, finish .finished .ensures, fourth .settled324 .ensures, third .settled323 .ensures, second .settled322 .ensures, first .settled32 .ensures, shelf .one-pole3 .ensures, mix .mixed .ensures, treble .one-pole2 .ensures, treble .before .one-pole .ensures)
 
 pub step-with-spec : {M : Type 1} → statement M
 step-with-spec =

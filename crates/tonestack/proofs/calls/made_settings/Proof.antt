@@ -10,7 +10,7 @@ number-of-requires c κs = search needs
 
 returns : tie.Need-returns
 unfolding madeSettings ofBits
-returns c = cc
+returns c = rw (c .number-of .ensures)
 
 pub made-settings-spec : {M : Type 1} → statement M
 made-settings-spec = tie.close (tie.spec number-of-requires returns)

@@ -26,7 +26,12 @@ alpha-requires-4 c κs = search needs
 
 returns : tie.Need-returns
 unfolding alphasOf f32 ofBits
-returns c = cc
+returns c =
+    let third = c .before in
+    let second = third .before in
+    let first = second .before in
+    let corners = first .before in
+    rw (c .alpha4 .ensures, third .alpha3 .ensures, second .alpha2 .ensures, first .alpha .ensures, corners .model-corners .ensures, corners .before .model-of .ensures)
 
 pub alphas-of-spec : {M : Type 1} → statement M
 alphas-of-spec =

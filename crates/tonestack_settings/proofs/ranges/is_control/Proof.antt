@@ -11,7 +11,7 @@ in-range-requires c κs = search needs
 
 returns : tie.Need-returns
 unfolding isControl f32 ofBits
-returns c = cc
+returns c = c .in-range .ensures
 
 pub is-control-spec : {M : Type 1} → statement M
 is-control-spec = tie.close (tie.spec in-range-requires returns)

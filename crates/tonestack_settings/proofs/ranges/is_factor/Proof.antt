@@ -11,7 +11,7 @@ in-range-requires c κs = search needs
 
 returns : tie.Need-returns
 unfolding isFactor f32 ofBits
-returns c = cc
+returns c = c .in-range .ensures
 
 pub is-factor-spec : {M : Type 1} → statement M
 is-factor-spec = tie.close (tie.spec in-range-requires returns)

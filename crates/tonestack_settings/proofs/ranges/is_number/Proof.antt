@@ -9,7 +9,7 @@ value-requires c κs = search needs
 
 returns : tie.Need-returns
 unfolding isNumber
-returns c = cc
+returns c = rw (c .value .ensures)
 
 pub is-number-spec : {M : Type 1} → statement M
 is-number-spec = tie.close (tie.spec value-requires returns)

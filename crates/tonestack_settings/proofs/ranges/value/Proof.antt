@@ -18,19 +18,19 @@ enum-known-t-4 c = search needs
 
 returns : tie.Need-returns
 unfolding value
-returns c = cc
+returns c = rw (c .before .t .given .1)
 
 returns-2 : tie.Need-returns-2
 unfolding value
-returns-2 c = cc
+returns-2 c = rw (c .before .t2 .given .1)
 
 returns-3 : tie.Need-returns-3
 unfolding value
-returns-3 c = cc
+returns-3 c = rw (c .before .t3 .given .1)
 
 returns-4 : tie.Need-returns-4
 unfolding value
-returns-4 c = cc
+returns-4 c = rw (c .before .t4 .given .1)
 
 pub value-spec : {M : Type 1} → statement M
 value-spec =

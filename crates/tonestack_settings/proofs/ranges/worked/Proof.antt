@@ -21,19 +21,19 @@ is-factor-requires c κs = search needs
 
 returns : tie.Need-returns
 unfolding worked
-returns c = cc
+returns c = rw (c .enum-told .given .1)
 
 returns-2 : tie.Need-returns-2
 unfolding worked
-returns-2 c = cc
+returns-2 c = rw (c .enum-told2 .given .1)
 
 returns-3 : tie.Need-returns-3
 unfolding worked
-returns-3 c = cc
+returns-3 c = rw (c .enum-told3 .given .1)
 
 returns-4 : tie.Need-returns-4
 unfolding worked
-returns-4 c = cc
+returns-4 c = rw (c .is-factor .ensures, c .before .before .t .given .1)
 
 pub worked-spec : {M : Type 1} → statement M
 worked-spec =

@@ -1,0 +1,133 @@
+// Document 01's program: reads signed 16-bit samples from standard input to its end and writes what the
+// gate makes of them to standard output. A last odd byte isn't written.
+//
+// At its end it says on standard error how many samples there were and how many the gate aimed open at.
+// A program has no exit status to give, so that line stands only where all was read and written: a read
+// or a write that fails is named there instead, and ends the run.
+mod told;
+
+use libc::STDIN_FILENO;
+use libc::STDOUT_FILENO;
+use noise_gate::Gate;
+use noise_gate::Passage;
+ghost use Prim.Native.Nat.{_≤_};
+ghost use lib.ListN.{length};
+
+// The gate after a block, the samples so far and how many of them were aimed open, and what comes next.
+struct Turn {
+    gate: Gate,
+    samples: u64,
+    open: u64,
+    next: Next,
+}
+
+enum Next {
+    More,
+    End,
+    Failed,
+}
+
+// How many bytes a buffer was filled with, and what comes next.
+struct Filled {
+    count: usize,
+    next: Next,
+}
+
+// Reads until the buffer is full, the input ends or a read fails.
+fn fill(buffer: &mut [u8]) -> Filled
+    ensures { λ r. ⌜ r .count ≤ length (now (buffer .exit)) ⌝ }
+{
+    let mut at: usize = 0;
+    while at < buffer.len() {
+        let got = libc::read(STDIN_FILENO, &mut buffer[at..]);
+        if got < 0 {
+            told::failed(b"gate: a read failed\n");
+            return Filled {
+                count: at,
+                next: Next::Failed,
+            };
+        }
+        let n = io::count(got, &buffer[at..]);
+        if n == 0 {
+            return Filled {
+                count: at,
+                next: Next::End,
+            };
+        }
+        at += n;
+    }
+    Filled {
+        count: at,
+        next: Next::More,
+    }
+}
+
+// A block through the gate, and what it gives written.
+fn passed(turn: Turn, input: &[u8], output: &mut [u8], next: Next) -> Turn {
+    let g = turn.gate;
+    let samples = turn.samples;
+    let open = turn.open;
+    let ran = pcm_gate::pass(g, input, output);
+    let gate = ran.gate;
+    let answer = ran.answer;
+    let Passage::Done(p) = answer else {
+        told::failed(b"gate: a block was refused\n");
+        return Turn {
+            gate: gate,
+            samples: samples,
+            open: open,
+            next: Next::Failed,
+        };
+    };
+    let whole = output.len() / 2;
+    let even = whole * 2;
+    if !io::write_all(STDOUT_FILENO, &output[..even]) {
+        told::failed(b"gate: a write failed\n");
+        return Turn {
+            gate: gate,
+            samples: samples,
+            open: open,
+            next: Next::Failed,
+        };
+    }
+    Turn {
+        gate: gate,
+        samples: std::num::wrapping_add_u64(samples, whole as u64),
+        open: std::num::wrapping_add_u64(open, p.count as u64),
+        next: next,
+    }
+}
+
+fn one_turn(turn: Turn) -> Turn {
+    let mut input = io::buffer();
+    let mut output = io::buffer();
+    let filled = fill(&mut input);
+    let n = filled.count;
+    let next = filled.next;
+    passed(turn, &input[..n], &mut output[..n], next)
+}
+
+fn goes_on(turn: Turn) -> bool {
+    let next = turn.next;
+    if let Next::More = next { true } else { false }
+}
+
+// A proved loop has to end, and nothing says that the input does. So the turns are counted down from a
+// number that no run uses up.
+fn main() {
+    let mut turn = Turn {
+        gate: pcm_gate::program_gate(),
+        samples: 0,
+        open: 0,
+        next: Next::More,
+    };
+    let mut turns = u64::MAX;
+    while turns > 0 && goes_on(turn) {
+        turn = one_turn(turn);
+        turns -= 1;
+    }
+    let next = turn.next;
+    if let Next::End = next {
+        told::counts(turn.samples, turn.open);
+    }
+}

@@ -1,0 +1,2 @@
+-- The buffers of a run.
+pub mod Buffers
