@@ -1,10 +1,10 @@
 -- Reading a sample is exact, and what is read is no larger in size than 1. For any word. Assumes nothing.
 use mathlib.Core.Path.{_≡_, refl, sym, ap, _∙_, subst}
-use Prim.Native.Nat.{ℕ, suc, _+_, _-_, _*_, _^_, _≤_, _<_}
-use native.Mathlib.Nat.{lt-of-lt-of-le, mul-lt-mul-of-pos-right, mul-assoc, mul-right-comm, mul-comm, mul-one}
+use Prim.Native.Nat.{ℕ, suc, _-_, _*_, _^_, _≤_}
+use native.Mathlib.Nat.{lt-of-lt-of-le, mul-lt-mul-of-pos-right, mul-assoc, mul-right-comm, mul-one}
 use native.Mathlib.Omega.{arith}
 use mathlib.Core.Bool.{Bool, true, false, cond}
-use lib.IntN.{ℤ, pos, negsuc}
+use lib.IntN.{pos, negsuc}
 use lib.Dec.{T, ltb, lit≤}
 use lib.Pow.{pow-pos}
 use lib.Ieee.{Float, nan, inf, fin, binary32, unlike, up, down, fits, le, div, ofInt}

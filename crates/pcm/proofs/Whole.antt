@@ -1,13 +1,13 @@
 -- The nearest whole number to a size, by its whole part and a comparison with the tie above that. Assumes nothing.
 use mathlib.Core.Path.{_≡_, refl, sym, ap, _∙_, subst}
-use Prim.Native.Nat.{ℕ, zero, suc, _+_, _-_, _*_, _/_, _%_, _^_, _≤_, _<_, min, compare}
-use native.Mathlib.Nat.{le-trans, lt-of-mul-lt-mul-right, le-of-mul-le-mul-right, mul-lt-mul-of-pos-right, mul-le-mul-right, mul-right-comm, mul-one, mul-assoc, add-mul, div-add-mod', mod-lt, min-eq-left, lt-of-lt-of-le, eq-of-mul-eq-mul-right}
+use Prim.Native.Nat.{ℕ, _+_, _-_, _*_, _/_, _%_, _^_, _≤_, _<_, min, compare}
+use native.Mathlib.Nat.{le-trans, lt-of-mul-lt-mul-right, mul-lt-mul-of-pos-right, mul-right-comm, mul-one, mul-assoc, add-mul, div-add-mod', mod-lt, lt-of-lt-of-le, eq-of-mul-eq-mul-right}
 use native.Mathlib.Numerals.{add-one}
 use lib.Pow.{pow-pos}
 use native.Mathlib.Omega.{arith}
-use mathlib.Core.Bool.{Bool, true, false, true≢false, cond}
+use mathlib.Core.Bool.{true, false, true≢false}
 use lib.IntN.{ℤ, pos, negsuc}
-use lib.Dec.{T, lit≤}
+use lib.Dec.{lit≤}
 use lib.Ieee.{Float, nan, inf, fin, binary32, up, down, lt, add, sum, ofInt, toUnsigned}
 use lib.Ieee.Back.{round-whole}
 use lib.Ieee.Exact.{HasValue, round-exact}

@@ -1,6 +1,6 @@
 -- A gate that 9 accepts is one that it accepts after any bytes, so bytes cut at an even place give the same bytes, state and count as in one call; and a refusal changes nothing.
 -- Assumes nothing.
-use mathlib.Core.Path.{_≡_, refl, sym, _∙_, subst}
+use mathlib.Core.Path.{_≡_, refl}
 use mathlib.Core.Bool.{Bool, true}
 use mathlib.Core.List.{List, [], _∷_, _++_}
 use Prim.Native.Nat.{ℕ, _+_, _%_}

@@ -2,8 +2,7 @@
 -- Assumes nothing.
 use Prim.Native.Nat.{ℕ, _+_, _*_}
 use mathlib.Core.List.{List, [], _∷_}
-use lib.Ieee.{neg, add, sub, mul, div, lt, le, eq, whole, ofInt, toUnsigned, round}
-use lib.Ieee.Scale.{finite}
+use lib.Ieee.{neg, sub, mul, div, lt, le, eq, whole, ofInt, toUnsigned}
 use Rattle.rounding.specs.Fma.{fma}
 use Rattle.rounding.specs.Casts.{absolute}
 use Rattle.rounding.specs.Table.{Row}
