@@ -28,6 +28,11 @@ void float_checks(void);
 void common_checks(void);
 void gate_checks(void);
 void clipper_checks(void);
+void eq_checks(void);
+void tonestack_checks(void);
+void saturator_checks(void);
+void layout_checks(void);
+void mission_checks(const char *recording);
 
 #define QUIET32 0x7fc00000u
 #define QUIET64 0x7ff8000000000000u

@@ -45,15 +45,6 @@ void check_gate(const char *call, const hoofglaze_gate *given, const hoofglaze_g
     check(call, given->registers.counter, said->registers.counter, 13, 0, 0);
 }
 
-void check_answer(const char *call, hoofglaze_answer given, uint32_t number, size_t place, size_t count,
-                  uint32_t value)
-{
-    check(call, given.number, number, place, count, value);
-    check(call, given.place, place, number, count, value);
-    check(call, given.count, count, number, place, value);
-    check(call, bytes32(given.value), value, number, place, count);
-}
-
 void check_told(const char *call, hoofglaze_gate_answered given, uint32_t number, hoofglaze_gate said)
 {
     check_answer(call, given.answer, number, 0, 0, 0);
@@ -85,9 +76,6 @@ static void check_make(uint32_t rate, uint32_t rising, uint32_t falling, uint32_
 static const uint32_t good_c[] = {0, SIGN, 1, 0x3f000000, BELOW_ONE};
 static const uint32_t bad_c[] = {ONE, SIGN + 1, SIGN + ONE, INFINITE, SIGN + INFINITE, QUIET32, ODD_NAN,
                                  INFINITE + 1};
-static const float good_rate[] = {8000, 8001, 44100, 48000, 96000, 191999, 192000};
-static const uint32_t bad_rate[] = {0, SIGN, 0x45f9ffff, 0x45f9f800, 0x483b8001, 0x483b8040, 0x473b8040,
-                                    0xc73b8000, INFINITE, SIGN + INFINITE, QUIET32, ODD_NAN};
 
 static void makings(void)
 {

@@ -3,21 +3,9 @@
 #ifndef GATE_H
 #define GATE_H
 
-#include <stddef.h>
+#include "stage.h"
 
-#include "checks.h"
-#include "hoofglaze.h"
-
-#define SIGN 0x80000000u
-#define INFINITE 0x7f800000u
-#define ONE 0x3f800000u
-#define BELOW_ONE 0x3f7fffffu
-#define SIXTY_FOUR 0x42800000u
-#define ODD_NAN 0xffa12345u
-
-#define COUNT(list) ((int)(sizeof(list) / sizeof(list)[0]))
-
-enum { SETTINGS = 11, NAMED = 5, LONGEST = 4096, ROOM = LONGEST + 1 };
+enum { SETTINGS = 11, NAMED = 5 };
 
 struct named {
     const char *name;
@@ -32,8 +20,6 @@ uint32_t setting(const hoofglaze_gate *g, int i);
 hoofglaze_gate with_setting(hoofglaze_gate g, int i, uint32_t bits);
 
 void check_gate(const char *call, const hoofglaze_gate *given, const hoofglaze_gate *said);
-void check_answer(const char *call, hoofglaze_answer given, uint32_t number, size_t place, size_t count,
-                  uint32_t value);
 void check_told(const char *call, hoofglaze_gate_answered given, uint32_t number, hoofglaze_gate said);
 
 hoofglaze_gate made(float rate, float rising, float falling);

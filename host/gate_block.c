@@ -6,28 +6,7 @@
 
 enum { BLOCKS = 60 };
 
-static float input[ROOM], output[ROOM], expected[ROOM];
-
 /* ---- blocks: 9, 7, 8, 6 */
-
-static uint32_t buffer_bits(size_t i)
-{
-    return i % 3 ? ODD_NAN + (uint32_t)i : 0x3e000000u + (uint32_t)i;
-}
-
-static void fill_output(void)
-{
-    for (size_t i = 0; i < ROOM; i++)
-        output[i] = float_of(buffer_bits(i));
-}
-
-static void check_untouched(const char *call)
-{
-    size_t changed = 0;
-    for (size_t i = 0; i < ROOM; i++)
-        changed += bytes32(output[i]) != buffer_bits(i);
-    check(call, changed, 0, 0, 0, 0);
-}
 
 /* A block that must be refused, by value and in place. */
 static void check_refused(hoofglaze_gate g, size_t samples, size_t places, uint32_t number, size_t place)
@@ -42,12 +21,6 @@ static void check_refused(hoofglaze_gate g, size_t samples, size_t places, uint3
     check_answer("gate_block_in_place", b, number, place, 0, 0);
     check_gate("gate_block_in_place", &lying, &g);
     check_untouched("gate_block_in_place");
-}
-
-static void quiet_input(void)
-{
-    for (int i = 0; i < ROOM; i++)
-        input[i] = float_of(0x3c000000 + drawn() % 0x02000000 + (drawn() & SIGN));
 }
 
 static void refused_blocks(void)
@@ -75,7 +48,7 @@ static void refused_blocks(void)
 
 /* ---- 9: one number at a time that couldn't have been set, made or reached */
 
-static void check_bad_state(hoofglaze_gate g)
+static void check_bad_gate(hoofglaze_gate g)
 {
     float odd = float_of(ODD_NAN);
     for (int i = 0; i < NAMED; i++) {
@@ -117,7 +90,6 @@ static void check_accepted(hoofglaze_gate g)
 
 static void bad_states(void)
 {
-    static const uint32_t odd[] = {QUIET32, ODD_NAN, INFINITE + 1, INFINITE, SIGN + INFINITE};
     group("gate: states refused by 9, and those at their bounds");
     quiet_input();
     hoofglaze_gate g = made(48000, 0.5f, 0.25f);
@@ -126,23 +98,23 @@ static void bad_states(void)
     for (int i = 0; i < SETTINGS; i++) {
         check_accepted(with_setting(g, i, lowest[i]));
         check_accepted(with_setting(g, i, highest[i]));
-        check_bad_state(with_setting(g, i, lowest[i] == 0 ? SIGN + 1 : lowest[i] + (i == 1 ? 1 : -1)));
-        check_bad_state(with_setting(g, i, highest[i] + 1));
+        check_bad_gate(with_setting(g, i, lowest[i] == 0 ? SIGN + 1 : lowest[i] + (i == 1 ? 1 : -1)));
+        check_bad_gate(with_setting(g, i, highest[i] + 1));
         for (int j = 0; j < COUNT(odd); j++)
-            check_bad_state(with_setting(g, i, odd[j]));
+            check_bad_gate(with_setting(g, i, odd[j]));
     }
     static const uint32_t levels[] = {SIXTY_FOUR + 1, SIGN + 1, QUIET32, ODD_NAN, INFINITE};
     static const uint32_t states[] = {ONE + 1, SIGN + 1, QUIET32, ODD_NAN, INFINITE};
     static const uint64_t counters[] = {96001, 1u << 31, 1ull << 32, UINT64_MAX};
     hoofglaze_gate bad = g;
     for (int i = 0; i < COUNT(levels); i++, bad = g)
-        bad.registers.level = float_of(levels[i]), check_bad_state(bad);
+        bad.registers.level = float_of(levels[i]), check_bad_gate(bad);
     for (int i = 0; i < COUNT(states); i++, bad = g)
-        bad.registers.state = float_of(states[i]), check_bad_state(bad);
+        bad.registers.state = float_of(states[i]), check_bad_gate(bad);
     for (int i = 0; i < COUNT(counters); i++, bad = g)
-        bad.registers.counter = counters[i], check_bad_state(bad);
-    check_bad_state(with_setting(g, 0, 0x473b8040)); /* 48,000.25 */
-    check_bad_state(hoofglaze_gate_make(0, 0, 0).gate);
+        bad.registers.counter = counters[i], check_bad_gate(bad);
+    check_bad_gate(with_setting(g, 0, 0x473b8040)); /* 48,000.25 */
+    check_bad_gate(hoofglaze_gate_make(0, 0, 0).gate);
 }
 
 /* ---- document 01's step */
@@ -197,11 +169,6 @@ static hoofglaze_gate check_block(hoofglaze_gate g, size_t samples)
     return a.gate;
 }
 
-static uint32_t between(uint32_t low, uint32_t high)
-{
-    return low + drawn() % (high - low + 1);
-}
-
 /* A made gate with all five settings set. */
 static hoofglaze_gate set_up(void)
 {
@@ -214,20 +181,6 @@ static hoofglaze_gate set_up(void)
     g = set_typed(g, 2, 1, float_of(between(0x3f000000, BELOW_ONE))).gate;
     g = set_typed(g, 3, 100, float_of(between(0x3f000000, BELOW_ONE))).gate;
     return set_typed(g, 4, holds[drawn() % COUNT(holds)], 0).gate;
-}
-
-/* Stretches of loud, low and silent samples, and the ends of what a sample may be. */
-static void draw_input(void)
-{
-    static const uint32_t ends[] = {0, SIGN, 1, SIGN + 1, 0x007fffff, 0x00800000, SIXTY_FOUR,
-                                    SIGN + SIXTY_FOUR};
-    uint32_t low = 0;
-    for (int i = 0; i < ROOM; i++) {
-        if (i == 0 || drawn() % 200 == 0)
-            low = drawn() % 3 * 0x1f000000;
-        input[i] = float_of(drawn() % 50 == 0 ? ends[drawn() % COUNT(ends)]
-                                              : between(low, low + 0x01800000) + (drawn() & SIGN));
-    }
 }
 
 static void blocks(void)

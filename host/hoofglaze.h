@@ -2,9 +2,10 @@
  *
  * Every call takes any numbers at all, and any bits in a state. A pointer must be good for the length
  * beside it, and not null where that is 0; the buffers of one call, its name and its gate must not
- * overlap. The float environment must be the default one, as a
- * program starts with it: a thread that rounds another way, or has subnormals flushed to zero,
- * gets other bits. */
+ * overlap. Lengths count samples, and bytes for a name, which needs no 0 at its end. The float
+ * environment must be the default one, as a program starts with it: a thread that rounds another way, or
+ * has subnormals flushed to zero, gets other bits. The library keeps nothing from call to call and
+ * allocates nothing: threads may call it at once, each with states and buffers of its own. */
 #ifndef HOOFGLAZE_H
 #define HOOFGLAZE_H
 
@@ -50,33 +51,48 @@ double hoofglaze_from_bits64(uint64_t n);
 
 /* ---- What every stage answers
  *
+ * A setting, step, reset or block by value gives back the state to go on with: the one that it was given,
+ * where it is refused.
+ *
  * 0 done
  * 1 the name is no setting of this stage
  * 2 band index read and above 15
  * 3 value outside its range, or NaN
  * 4 a worked number isn't acceptable
  * 5 sample rate isn't a whole number from 8,000 to 192,000
- * 6 a sample is NaN, infinite or larger in size than 64
+ * 6 a sample is NaN, infinite or larger in size than 64; carries the place of the first that is refused
  * 7 the two buffers differ in length
  * 8 block longer than 4,096 samples
  * 9 a state's settings, rate or worked numbers couldn't have been set or made, or the gate's level,
  *   state or counter is out of bounds
  *
+ * Where a call's comment has numbers in a row, as 9, 1, 3, 4, it is tested for these refusals in this
+ * order and the first that holds is its answer; it is refused by no other.
+ *
  * No refusal changes a state or an output buffer, not a bit of it. Every NaN that a call returns or a
- * sample's step writes, registers too, is the quiet NaN 7FC00000. A host may keep a state's numbers and
- * hand them back. */
+ * sample's step writes, registers too, is the quiet NaN 7FC00000 (double: 7FF8000000000000). A host may
+ * keep a state's numbers and hand them back. */
 typedef struct {
-    uint32_t number;
-    float value;  /* what a call read or stepped to; +0 where it does neither, or was refused */
-    size_t place; /* that of the first sample that is refused (6), from 0; else 0 */
-    size_t count; /* how many samples of a done block were aimed open; else 0 */
+    uint32_t number; /* 0 done, or what it is refused by */
+    float value;     /* what a call read or stepped to; +0 where it does neither, or was refused */
+    size_t place;    /* that of the first sample that is refused (6), from 0; else 0 */
+    size_t count;    /* how many samples of a done block were aimed open; else 0 */
 } hoofglaze_answer;
+
+/* ---- Worked numbers
+ *
+ * What the Rust works out with sin, exp and powf, a host gives beside the value that its user set. They
+ * are checked for their range only, not against that value. The Rust takes, for a time in ms, the
+ * smoothing number exp(-1 / (rate * 0.001 * ms)); for a DC blocker's corner in Hz, exp(-2 pi * corner /
+ * rate); for a threshold in dB, the factor 10^(dB / 20); for a presence, 10^((presence - 1) * 6 / 20). A
+ * band's five are the Audio EQ Cookbook's peaking filter of 10/16 octave, a saturator's frequency has its
+ * low-pass and high-pass of Q = 1/sqrt(2), each divided by a0. */
 
 /* ---- Follower and DC blocker, one sample at a time
  *
  * c (attack, release) are worked numbers from 0 up to but excluding 1. Making refuses a bad c by 4 and
  * then gives a state whose c are 1; a step or reset on a state with a bad c is refused by 9. Samples and
- * registers may hold any bits. */
+ * registers may hold any bits. Making gives level, x1 and y1 0; its value, and a reset's, is +0. */
 
 typedef struct {
     float attack, release;
@@ -111,6 +127,12 @@ hoofglaze_blocker_answered hoofglaze_blocker_reset(hoofglaze_blocker b);
 
 /* ---- Noise gate
  *
+ * One sample, in order: follower; loud = level > threshold's factor. Loud sets the counter to H, else a
+ * counter above 0 drops by one. Aim open = loud or counter > 0; target 1 or 0. If target > state, c =
+ * attack's number, else release's; state = fma(c, state, (1-c)*target). If state < 0.999, g = 1/ratio and
+ * gain = fma(1-g, state, g); else 1. Output = input*gain. H, the hold in samples, is the truncation of
+ * (hold*0.001)*rate. All in float, each operation rounded.
+ *
  * Decibels and linear factors are kept apart; neither is ever accepted for the other. */
 
 typedef struct {
@@ -123,14 +145,14 @@ typedef struct {
 
 /* What a host sets. */
 typedef struct {
-    float rate;
+    float rate;                   /* a whole number from 8,000 to 192,000 Hz */
     hoofglaze_decibels threshold; /* -80 to 0 dB */
     hoofglaze_factor factor;      /* the threshold's linear factor, 2^-14 to 1 */
     float ratio;                  /* 1 to 100 */
-    float attack, opening;        /* 0.1 to 100 ms, and its smoothing number */
-    float release, closing;       /* 1 to 1,000 ms, and its smoothing number */
+    float attack, opening;        /* 0.1 to 100 ms, and its smoothing number, from 0 to below 1 */
+    float release, closing;       /* 1 to 1,000 ms, and its smoothing number, from 0 to below 1 */
     float hold;                   /* 0 to 500 ms */
-    float rising, falling;        /* the follower's attack and release numbers */
+    float rising, falling;        /* the follower's attack and release numbers, from 0 to below 1 */
 } hoofglaze_gate_settings;
 
 /* What a sample moves. */
@@ -151,11 +173,14 @@ typedef struct {
 } hoofglaze_gate_answered;
 
 /* A gate at rest: threshold 0 dB, factor 1; ratio 10; attack 1 ms; release 100 ms; hold 50 ms; attack's
- * and release's smoothing numbers 0. Refused by 5, then 4, with a gate whose numbers are all 0. */
+ * and release's smoothing numbers 0; level, state and counter 0. Refused by 5, then 4, with a gate whose
+ * numbers are all 0, the rate too, which 9 refuses ever after. */
 hoofglaze_gate_answered hoofglaze_gate_make(float rate, float rising, float falling);
 
-/* A setting by its name, the bytes threshold, ratio, attack, release or hold, with its value and its
- * worked number, which ratio and hold don't look at: 9, 1, 3, 4. */
+/* A setting by its name, the bytes threshold, ratio, attack, release or hold, with its value in the unit
+ * above and its worked number (threshold: the factor; attack, release: the smoothing number), which ratio
+ * and hold don't look at: 9, 1, 3, 4. Level, state and counter stay; so does a running counter when the
+ * hold is changed. */
 hoofglaze_gate_answered hoofglaze_gate_set(hoofglaze_gate g, const uint8_t *name, size_t bytes,
                                            float value, float worked);
 
@@ -167,14 +192,15 @@ hoofglaze_gate_answered hoofglaze_gate_set_attack(hoofglaze_gate g, float value,
 hoofglaze_gate_answered hoofglaze_gate_set_release(hoofglaze_gate g, float value, float worked);
 hoofglaze_gate_answered hoofglaze_gate_set_hold(hoofglaze_gate g, float value);
 
-/* The value of the setting of that name; of the threshold, the dB last set: 9, 1. */
+/* The answer's value is the setting of that name; of the threshold, the dB last set: 9, 1. */
 hoofglaze_answer hoofglaze_gate_read(hoofglaze_gate g, const uint8_t *name, size_t bytes);
 
-/* Level, state and counter 0: 9. */
+/* Level, state and counter 0, settings kept: 9. */
 hoofglaze_gate_answered hoofglaze_gate_reset(hoofglaze_gate g);
 
-/* A block of samples from one buffer into another: 9, 7, 8, 6. An empty block is done. The count is that
- * of the samples at which the gate aimed open. */
+/* A block of samples from one buffer into another of the same length, at most 4,096: 9, 7, 8, 6. An empty
+ * block is done. The count is that of the samples at which the gate aimed open. However a signal is cut
+ * into blocks, its outputs, the last state and the sum of the counts are the same. */
 hoofglaze_gate_answered hoofglaze_gate_block(hoofglaze_gate g, const float *input, size_t samples,
                                              float *output, size_t places);
 
@@ -188,10 +214,228 @@ hoofglaze_answer hoofglaze_gate_block_in_place(hoofglaze_gate *g, const float *i
 /* ---- Clipper
  *
  * A block of n samples by a finite drive, else 3: the product, then the clamp to -1..1 or the triode's
- * table. Refused by 7, 8, 3, 6, in this order; n and m are the lengths of the two buffers, which must
- * not overlap. Every output of a done block is from -1 to 1. It keeps no state. */
+ * table of 256 entries over -10..10, between which a cubic runs: 7, 8, 3, 6. n and m are the lengths of
+ * the two buffers. An empty block is done. Every output of a done block is from -1 to 1. It keeps no
+ * state. */
 hoofglaze_answer hoofglaze_clip_hard(float drive, const float *input, size_t n, float *output, size_t m);
 hoofglaze_answer hoofglaze_clip_triode(float drive, const float *input, size_t n, float *output, size_t m);
+
+/* ---- Equaliser
+ *
+ * Sixteen bands in a row, in double, then one rounding to float. Their centres in Hz: 25, 40, 63, 100,
+ * 160, 250, 400, 630, 1000, 1600, 2500, 4000, 6300, 10000, 16000, 20000. A band's name is the bytes
+ * band_ and then its index, from 0: an optional +, one or more decimal digits, leading zeros allowed, at
+ * most 2^64-1. Anything else is refused by 1, an index above 15 by 2. */
+
+/* A band's worked numbers: five that are finite, else 4. */
+typedef struct {
+    double b0, b1, b2, a1, a2;
+} hoofglaze_eq_numbers;
+
+typedef struct {
+    hoofglaze_decibels value; /* -12 to 12 dB */
+    hoofglaze_eq_numbers numbers;
+} hoofglaze_eq_band;
+
+/* What a host sets. */
+typedef struct {
+    float rate;
+    hoofglaze_eq_band bands[16];
+} hoofglaze_eq_settings;
+
+typedef struct {
+    double x1, x2, y1, y2;
+} hoofglaze_eq_delay;
+
+/* What a sample moves: any bits. */
+typedef struct {
+    hoofglaze_eq_delay bands[16];
+} hoofglaze_eq_registers;
+
+typedef struct {
+    hoofglaze_eq_settings settings;
+    hoofglaze_eq_registers registers;
+} hoofglaze_eq;
+
+typedef struct {
+    hoofglaze_eq equaliser;
+    hoofglaze_answer answer;
+} hoofglaze_eq_answered;
+
+/* All bands at 0 dB, b0 = 1 and the other four 0, at rest. Refused by 5, with numbers that are all 0. */
+hoofglaze_eq_answered hoofglaze_eq_make(float rate);
+
+/* A band by its name: 9, 1, 2, 3, 4; by its index: 9, 2, 3, 4. If the size of the value, as double, is
+ * below 1e-6, the five are checked but not used: b0 = 1, the others 0, the band's registers zeroed. Else,
+ * if its b1 and a1 both equalled 0 before, its registers are zeroed; then the five are taken. */
+hoofglaze_eq_answered hoofglaze_eq_set(hoofglaze_eq e, const uint8_t *name, size_t bytes,
+                                       hoofglaze_decibels value, hoofglaze_eq_numbers worked);
+hoofglaze_eq_answered hoofglaze_eq_set_band(hoofglaze_eq e, size_t band, hoofglaze_decibels value,
+                                            hoofglaze_eq_numbers worked);
+
+/* The dB last set: 9, 1, 2. */
+hoofglaze_answer hoofglaze_eq_read(hoofglaze_eq e, const uint8_t *name, size_t bytes);
+
+/* Registers 0: 9. */
+hoofglaze_eq_answered hoofglaze_eq_reset(hoofglaze_eq e);
+
+/* A block of samples from one buffer into another: 9, 7, 8, 6. An empty block is done. Each band: y =
+ * fma(b0, x, fma(b1, x1, b2*x2)) - fma(a1, y1, a2*y2). */
+hoofglaze_eq_answered hoofglaze_eq_block(hoofglaze_eq e, const float *input, size_t samples,
+                                         float *output, size_t places);
+
+/* ---- Tone stack
+ *
+ * The names are bass, mid, treble and presence. */
+
+/* What a host sets. */
+typedef struct {
+    float rate;
+    uint32_t model;                     /* 0 Modern, 1 British, 2 American, 3 Flat; above 3 is 9 */
+    float bass, mid, treble, presence;  /* 0 to 2 */
+    hoofglaze_factor factor;            /* presence's factor, 0.5 to 2 */
+} hoofglaze_tone_settings;
+
+/* What a sample moves: any bits. */
+typedef struct {
+    float dc, bass, treble, presence;
+} hoofglaze_tone_registers;
+
+typedef struct {
+    hoofglaze_tone_settings settings;
+    hoofglaze_tone_registers registers;
+} hoofglaze_tone;
+
+typedef struct {
+    hoofglaze_tone tone;
+    hoofglaze_answer answer;
+} hoofglaze_tone_answered;
+
+/* A tone stack at rest: all four controls 1, factor 1. Refused by 5, with numbers that are all 0. */
+hoofglaze_tone_answered hoofglaze_tone_make_modern(float rate);
+hoofglaze_tone_answered hoofglaze_tone_make_british(float rate);
+hoofglaze_tone_answered hoofglaze_tone_make_american(float rate);
+hoofglaze_tone_answered hoofglaze_tone_make_flat(float rate);
+
+/* A control by its name with its value, which is clamped to 0 to 2, and its worked number, which
+ * only presence looks at: 9, 1, 3 (NaN), 4. */
+hoofglaze_tone_answered hoofglaze_tone_set(hoofglaze_tone t, const uint8_t *name, size_t bytes,
+                                           float value, float worked);
+
+/* The same control by control: 9, 3, 4. */
+hoofglaze_tone_answered hoofglaze_tone_set_bass(hoofglaze_tone t, float value);
+hoofglaze_tone_answered hoofglaze_tone_set_mid(hoofglaze_tone t, float value);
+hoofglaze_tone_answered hoofglaze_tone_set_treble(hoofglaze_tone t, float value);
+hoofglaze_tone_answered hoofglaze_tone_set_presence(hoofglaze_tone t, float value,
+                                                    hoofglaze_factor worked);
+
+/* The control's value after its clamp: 9, 1. */
+hoofglaze_answer hoofglaze_tone_read(hoofglaze_tone t, const uint8_t *name, size_t bytes);
+
+/* Registers 0: 9. */
+hoofglaze_tone_answered hoofglaze_tone_reset(hoofglaze_tone t);
+
+/* A block of samples from one buffer into another: 9, 7, 8, 6. An empty block is done. */
+hoofglaze_tone_answered hoofglaze_tone_block(hoofglaze_tone t, const float *input, size_t samples,
+                                             float *output, size_t places);
+
+/* ---- Multiband saturator
+ *
+ * The names are low_drive, mid_drive, high_drive, low_level, mid_level, high_level, low_freq and
+ * high_freq. */
+
+/* A filter's worked numbers: five that are finite, else 4. */
+typedef struct {
+    float b0, b1, b2, a1, a2;
+} hoofglaze_saturator_numbers;
+
+/* What a frequency carries. */
+typedef struct {
+    hoofglaze_saturator_numbers lowpass, highpass;
+} hoofglaze_saturator_crossover;
+
+/* A number for each band. */
+typedef struct {
+    float low, mid, high;
+} hoofglaze_saturator_bands;
+
+typedef struct {
+    float low, high; /* 50 to 500 Hz, 1,000 to 6,000 Hz */
+} hoofglaze_saturator_frequencies;
+
+/* What a host sets. */
+typedef struct {
+    float rate;
+    hoofglaze_saturator_bands drives; /* 0 to 1 */
+    hoofglaze_saturator_bands levels; /* 0 to 2 */
+    hoofglaze_saturator_frequencies frequencies;
+    hoofglaze_saturator_crossover low, high; /* what the two frequencies carry */
+    float attack, release, blocker;          /* the followers' two and the DC blockers' c, of all bands */
+} hoofglaze_saturator_settings;
+
+typedef struct {
+    float x1, x2, y1, y2;
+} hoofglaze_saturator_half;
+
+typedef struct {
+    hoofglaze_saturator_half first, second;
+} hoofglaze_saturator_filter;
+
+/* A follower's level and a DC blocker's two registers. */
+typedef struct {
+    float level, x1, y1;
+} hoofglaze_saturator_band;
+
+/* What a sample moves: any bits. The filters below the low frequency and above it, the two that part what
+ * is above it at the high frequency, and the two at the high frequency whose sum is the low band. */
+typedef struct {
+    hoofglaze_saturator_filter low, side, mid, high, lowpass, highpass;
+    hoofglaze_saturator_band lows, mids, highs;
+} hoofglaze_saturator_registers;
+
+typedef struct {
+    hoofglaze_saturator_settings settings;
+    hoofglaze_saturator_registers registers;
+} hoofglaze_saturator;
+
+typedef struct {
+    hoofglaze_saturator saturator;
+    hoofglaze_answer answer;
+} hoofglaze_saturator_answered;
+
+/* A saturator at rest: drives 0, levels 1, 200 Hz and 2,000 Hz. The three c are from 0 up to but excluding
+ * 1. Refused by 5, then 4, with numbers that are all 0. */
+hoofglaze_saturator_answered hoofglaze_saturator_make(float rate, hoofglaze_saturator_crossover low,
+                                                      hoofglaze_saturator_crossover high, float attack,
+                                                      float release, float blocker);
+
+/* A setting by its name, with its value and its worked numbers, which only the two frequencies look at:
+ * 9, 1, 3, 4. Registers stay. */
+hoofglaze_saturator_answered hoofglaze_saturator_set(hoofglaze_saturator s, const uint8_t *name,
+                                                     size_t bytes, float value,
+                                                     hoofglaze_saturator_crossover worked);
+
+/* The same setting by setting: 9, 3, 4. */
+hoofglaze_saturator_answered hoofglaze_saturator_set_low_drive(hoofglaze_saturator s, float value);
+hoofglaze_saturator_answered hoofglaze_saturator_set_mid_drive(hoofglaze_saturator s, float value);
+hoofglaze_saturator_answered hoofglaze_saturator_set_high_drive(hoofglaze_saturator s, float value);
+hoofglaze_saturator_answered hoofglaze_saturator_set_low_level(hoofglaze_saturator s, float value);
+hoofglaze_saturator_answered hoofglaze_saturator_set_mid_level(hoofglaze_saturator s, float value);
+hoofglaze_saturator_answered hoofglaze_saturator_set_high_level(hoofglaze_saturator s, float value);
+hoofglaze_saturator_answered hoofglaze_saturator_set_low_freq(hoofglaze_saturator s, float value,
+                                                              hoofglaze_saturator_crossover worked);
+hoofglaze_saturator_answered hoofglaze_saturator_set_high_freq(hoofglaze_saturator s, float value,
+                                                               hoofglaze_saturator_crossover worked);
+
+/* The value last set: 9, 1. */
+hoofglaze_answer hoofglaze_saturator_read(hoofglaze_saturator s, const uint8_t *name, size_t bytes);
+
+/* Registers 0: 9. */
+hoofglaze_saturator_answered hoofglaze_saturator_reset(hoofglaze_saturator s);
+
+/* A block of samples from one buffer into another: 9, 7, 8, 6. An empty block is done. */
+hoofglaze_saturator_answered hoofglaze_saturator_block(hoofglaze_saturator s, const float *input,
+                                                       size_t samples, float *output, size_t places);
 
 #ifdef __cplusplus
 }

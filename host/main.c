@@ -1,4 +1,5 @@
-/* The host program: every check, a line for each group, and the count of those that failed. */
+/* The host program: every check, a line for each group, and the count of those that failed. Its argument
+ * is the recording that the mission's case runs on. */
 #include <stdio.h>
 
 #include "checks.h"
@@ -65,12 +66,17 @@ uint64_t nan_bits(uint64_t sign, uint64_t infinity, int i)
     return (i % 2 ? sign : 0) + infinity + fraction;
 }
 
-int main(void)
+int main(int count, char **words)
 {
     float_checks();
     common_checks();
     gate_checks();
     clipper_checks();
+    eq_checks();
+    tonestack_checks();
+    saturator_checks();
+    layout_checks();
+    mission_checks(count > 1 ? words[1] : "");
     close_group();
     printf("host: %lu checks, %lu failed\n", checks, failed);
     return checks == 0 || failed != 0;

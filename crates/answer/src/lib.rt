@@ -1,4 +1,5 @@
 // What every stage answers and checks: refusals by document 01's numbers, and the tests behind them.
+ghost use mathlib.Core.Bool.{_&&_};
 ghost use mathlib.Core.Path.{_≡_};
 ghost use lib.Dec.{eqb, leb};
 ghost use lib.Ieee.Scale.{finite};
@@ -106,6 +107,12 @@ pub fn finite64(x: f64) -> bool
     ensures { λ r. ⌜ r ≡ finite x ⌝ }
 {
     float::size64(x) < 1.0 / 0.0
+}
+
+pub fn both(a: bool, b: bool) -> bool
+    ensures { λ r. ⌜ r ≡ (a && b) ⌝ }
+{
+    if a { b } else { false }
 }
 
 pub fn lengths_agree(input: usize, output: usize) -> bool

@@ -14,7 +14,7 @@ use Rattle.answer.proofs.Refusals.{one-to-one, never-nought}
 use Rattle.answer.proofs.Told.{unchanged-done, unchanged-test}
 use Rattle.clipper.specs.Answers.{told}
 use Rattle.clipper.specs.Block.{block}
-use Rattle.clipper.specs.declared.Kind.{Kind}
+use Rattle.clipper_sample.specs.declared.Kind.{Kind}
 use Rattle.clipper.specs.declared.Answer.{Answer}
 use Rattle.clipper.specs.declared.Answer.the-variants.{Done, Refused}
 

@@ -18,11 +18,11 @@ use Rattle.answer.specs.declared.Refusal.the-variants.{OutOfRange, BadSample, L
 use Rattle.answer.proofs.Refusals.{never-nought}
 use Rattle.answer.proofs.Samples.{before-first}
 use Rattle.rounding.specs.Casts.{absolute}
-use Rattle.clipper.specs.Process.{one, minusOne, process}
+use Rattle.clipper_sample.specs.Process.{one, minusOne, process}
 use Rattle.clipper.specs.Block.{processed, block}
-use Rattle.clipper.specs.declared.Kind.{Kind}
-use Rattle.clipper.proofs.Held.{Between}
-use Rattle.clipper.proofs.Range.{process-between}
+use Rattle.clipper_sample.specs.declared.Kind.{Kind}
+use Rattle.clipper_sample.proofs.Held.{Between}
+use Rattle.clipper_sample.proofs.Range.{process-between}
 
 processed-at : (kind : Kind) (drive : Float) (xs : List Float) (i : ℕ) (d : Float) → i < length xs → getD (processed kind drive xs) i d ≡ process kind (getD xs i d) drive
 unfolding processed

@@ -1,9 +1,4 @@
--- What holds of the clipper beyond the equations of its functions.
+-- What holds of a block beyond the equations of the functions.
 pub mod Each
-pub mod Entries
-pub mod Rule
-pub mod Bounded
-pub mod Held
-pub mod Range
 pub mod Answers
 pub mod Done

@@ -1,5 +1,3 @@
--- The clipper, hard and triode.
-pub mod Table
-pub mod Process
+-- A block of the clipper.
 pub mod Answers
 pub mod Block

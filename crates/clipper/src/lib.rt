@@ -1,19 +1,12 @@
 // The clipper, hard and triode: a block with a kind and a drive, and one sample. It keeps no state.
-mod table;
-mod triode;
-
 use answer::Refusal;
+pub use clipper_sample::Kind;
+pub use clipper_sample::entry;
+pub use clipper_sample::process;
 ghost use mathlib.Core.Path.{_≡_};
 ghost use lib.ListN.{length};
 ghost use Rattle.clipper.specs.Answers.{told};
 ghost use Rattle.clipper.specs.Block as blocks;
-ghost use Rattle.clipper.specs.Process as samples;
-ghost use Rattle.clipper.specs.Table as curve;
-
-pub enum Kind {
-    Hard,
-    Triode,
-}
 
 pub enum Answer {
     Done,
@@ -50,34 +43,4 @@ fn process_all(kind: Kind, drive: f32, input: &[f32], output: &mut [f32])
         output[i] = process(kind, input[i], drive);
         i += 1;
     }
-}
-
-// One sample, for any bits.
-pub fn process(kind: Kind, input: f32, drive: f32) -> f32
-    ensures { λ r. ⌜ r ≡ samples.process kind input drive ⌝ }
-{
-    let driven = input * drive;
-    match kind {
-        Kind::Hard => float::settled32(clamp(-1.0, 1.0, driven)),
-        Kind::Triode => float::settled32(triode::process(driven)),
-    }
-}
-
-// The entry of the triode's table at a place, and NaN where there is none.
-pub fn entry(i: usize) -> f32
-    ensures { λ r. ⌜ r ≡ curve.entry i ⌝ }
-{
-    if i < table::SIZE {
-        table::entry(i)
-    } else {
-        0.0 / 0.0
-    }
-}
-
-// From lowest to highest; a NaN passes.
-fn clamp(lowest: f32, highest: f32, x: f32) -> f32
-    ensures { λ r. ⌜ r ≡ samples.clamp lowest highest x ⌝ }
-{
-    let raised = if x < lowest { lowest } else { x };
-    if highest < raised { highest } else { raised }
 }

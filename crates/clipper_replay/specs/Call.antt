@@ -10,10 +10,10 @@ use Rattle.samples.specs.Samples.{floatAt}
 use Rattle.answer.specs.Figures.{nought}
 use Rattle.answer.specs.Refusals as refusals
 use Rattle.answer.specs.Told.{Told}
-use Rattle.clipper.specs.Process.{process}
-use Rattle.clipper.specs.Table.{entry}
-use Rattle.clipper.specs.declared.Kind.{Kind}
-use Rattle.clipper.specs.declared.Kind.the-variants.{Hard, Triode}
+use Rattle.clipper_sample.specs.Process.{process}
+use Rattle.clipper_sample.specs.Table.{entry}
+use Rattle.clipper_sample.specs.declared.Kind.{Kind}
+use Rattle.clipper_sample.specs.declared.Kind.the-variants.{Hard, Triode}
 use Rattle.clipper.specs.declared.Answer.{Answer}
 use Rattle.clipper.specs.declared.Answer.the-variants.{Done, Refused}
 use Rattle.clipper_replay.specs.declared.call.Reply.{Reply}

@@ -2,11 +2,9 @@
 //
 // A finite value is m * 2 ^ k units of its format's smallest value. The product of two is a number
 // of squares of that unit, and so is the third value: `quick` takes both whole where their
-// exponents are near, and `general` takes the rest, the smaller term cut to an odd number.
-mod general;
+// exponents are near, and `double_general` takes the rest, the smaller term cut to an odd number.
 mod long;
 mod quick;
-mod wide;
 
 ghost use mathlib.Core.Path.{_≡_};
 ghost use lib.Ieee.{binary64};
@@ -30,19 +28,19 @@ fn nonzero(a: f64, b: f64, c: f64) -> f64
     let y = j % SIGN >> 52;
     let z = k % SIGN >> 52;
     if 1923 < std::num::wrapping_sub_u64(z, 62) {
-        return general::whole(a, b, c);
+        return double_general::whole(a, b, c);
     }
     if 2045 < std::num::wrapping_sub_u64(y, 1) {
-        return general::whole(a, b, c);
+        return double_general::whole(a, b, c);
     }
     if 2045 < std::num::wrapping_sub_u64(x, 1) {
-        return general::whole(a, b, c);
+        return double_general::whole(a, b, c);
     }
     let d = std::num::wrapping_sub_u64(x + y, z + 1003);
     if d <= 60 {
         return quick::close(a, b, c, i, j, k, d);
     }
-    general::whole(a, b, c)
+    double_general::whole(a, b, c)
 }
 
 // A zero needs no whole numbers: without a factor the product is a zero exactly, and without a

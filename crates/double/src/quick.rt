@@ -1,8 +1,8 @@
 // a * b + c for normal `f64` whose two terms, whole, have two digits of base 2 ^ 64: one product, one
 // sum, one normalisation.
-use crate::general;
 use crate::long;
 ghost use mathlib.Core.Path.{_≡_};
+ghost use mathlib.Core.Bool.{cond};
 ghost use Prim.Native.Nat.{_+_, _-_, _*_, _^_, _≤_, _<_};
 ghost use lib.Ieee.{binary64, ofBits, round, sum};
 ghost use lib.Ieee.Nearest.{closest};
@@ -13,6 +13,18 @@ const SIGN: u64 = 0x8000_0000_0000_0000;
 
 // The weight of a significand's leading digit.
 const HIDDEN: u64 = 0x10_0000_0000_0000;
+
+// The value of a sign and of a bit pattern without it. `double_general` has this step too: a bound is asked of its
+// caller, and no function that another crate calls asks for one.
+fn signed(s: bool, b: u64) -> f64
+    requires { ⌜ b ≤ 9218868437227405312 ⌝ }
+    ensures { λ r. ⌜ r ≡ ofBits binary64 (cond s 9223372036854775808 0 + b) ⌝ }
+{
+    if s {
+        return f64::from_bits(SIGN + b);
+    }
+    f64::from_bits(b)
+}
 
 // A number of 63 digits to the nearest of 53, a tie to the even one.
 fn kept(m: u64) -> u64
@@ -31,7 +43,7 @@ fn normal(s: bool, hi: u64, lo: u64, x: u64) -> f64
     ensures { λ r. ⌜ r ≡ round binary64 s ((hi * 2 ^ 64 + lo) * 2 ^ (x - 2)) (2 ^ 2148) ⌝ }
 {
     let g = long::top(hi, lo);
-    general::signed(s, (x - 1002 - g.k << 52) + kept(g.m))
+    signed(s, (x - 1002 - g.k << 52) + kept(g.m))
 }
 
 // The sum of the terms (ph * 2 ^ 64 + pl) * 2 ^ (x - 2) and (vh * 2 ^ 64 + vl) * 2 ^ (x - 2) with
@@ -63,18 +75,18 @@ fn joined(
     if vh < ph {
         let w = long::minus(ph, pl, vh, vl);
         if w.hi == 0 {
-            return general::whole(a, b, c);
+            return double_general::whole(a, b, c);
         }
         return normal(s, w.hi, w.lo, x);
     }
     if ph < vh {
         let w = long::minus(vh, vl, ph, pl);
         if w.hi == 0 {
-            return general::whole(a, b, c);
+            return double_general::whole(a, b, c);
         }
         return normal(t, w.hi, w.lo, x);
     }
-    general::whole(a, b, c)
+    double_general::whole(a, b, c)
 }
 
 // a * b + c where the two terms, whole, have two digits of base 2 ^ 64.

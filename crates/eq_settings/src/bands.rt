@@ -3,7 +3,7 @@ use crate::Band;
 use crate::Numbers;
 use crate::Settings;
 use answer::Decibels;
-ghost use mathlib.Core.Bool.{_&&_};
+use answer::both;
 ghost use mathlib.Core.Path.{_≡_};
 ghost use Rattle.eq_settings.specs.Bands as Bands;
 
@@ -19,12 +19,6 @@ const PASSTHROUGH: Numbers = Numbers {
     a1: 0.0,
     a2: 0.0,
 };
-
-fn both(a: bool, b: bool) -> bool
-    ensures { λ r. ⌜ r ≡ (a && b) ⌝ }
-{
-    if a { b } else { false }
-}
 
 pub fn in_its_range(value: Decibels) -> bool
     ensures { λ r. ⌜ r ≡ Bands.inItsRange value ⌝ }

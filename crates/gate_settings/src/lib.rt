@@ -6,7 +6,6 @@ use answer::Decibels;
 use answer::Factor;
 pub use names::find;
 pub use names::kept;
-pub use ranges::both;
 pub use ranges::in_its_range;
 pub use ranges::settable;
 pub use ranges::with_setting;

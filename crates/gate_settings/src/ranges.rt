@@ -1,7 +1,7 @@
 // What a setting may be and what it changes.
 use crate::Setting;
 use crate::Settings;
-ghost use mathlib.Core.Bool.{_&&_};
+use answer::both;
 ghost use mathlib.Core.Path.{_≡_};
 ghost use Rattle.gate_settings.specs.Ranges as Ranges;
 
@@ -9,12 +9,6 @@ ghost use Rattle.gate_settings.specs.Ranges as Ranges;
 const LONGEST_HOLD: f32 = 500.0;
 
 const LOWEST_FACTOR: f32 = 1.0 / 16384.0;
-
-pub fn both(a: bool, b: bool) -> bool
-    ensures { λ r. ⌜ r ≡ (a && b) ⌝ }
-{
-    if a { b } else { false }
-}
 
 // Whether t's value is in its range.
 pub fn in_its_range(t: Setting) -> bool

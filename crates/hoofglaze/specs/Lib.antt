@@ -3,3 +3,6 @@ pub mod Answers
 pub mod Lone
 pub mod Gate
 pub mod Clip
+pub mod Equalise
+pub mod Tone
+pub mod Saturator

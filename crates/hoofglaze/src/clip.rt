@@ -5,7 +5,7 @@ use crate::refused;
 use clipper::Kind;
 ghost use mathlib.Core.Path.{_≡_};
 ghost use Rattle.clipper.specs.Block.{block};
-ghost use Rattle.clipper.specs.declared.Kind.the-variants.{Hard, Triode};
+ghost use Rattle.clipper_sample.specs.declared.Kind.the-variants.{Hard, Triode};
 ghost use Rattle.hoofglaze.specs.Answers.{told};
 ghost use Rattle.hoofglaze.specs.Clip as crossing;
 

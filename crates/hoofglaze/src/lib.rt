@@ -2,9 +2,12 @@
 // Assumes nothing.
 pub mod arithmetic;
 pub mod clip;
+pub mod equalise;
 pub mod gate;
 pub mod gate_in_place;
 pub mod lone;
+pub mod saturator;
+pub mod tone;
 
 ghost use mathlib.Core.Path.{_≡_};
 ghost use Rattle.hoofglaze.specs.Answers as Answers;

@@ -1,7 +1,7 @@
 // What 9 accepts.
 use crate::Gate;
 use crate::Registers;
-use gate_settings::both;
+use answer::both;
 ghost use mathlib.Core.Path.{_≡_};
 ghost use Rattle.noise_gate.specs.Bounds as Bounds;
 

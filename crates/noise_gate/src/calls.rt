@@ -83,7 +83,7 @@ pub fn make(rate: f32, rising: f32, falling: f32) -> Answered
     if !answer::is_rate(rate) {
         return refused(UNMADE, Refusal::BadRate);
     }
-    if !gate_settings::both(answer::is_smoothing(rising), answer::is_smoothing(falling)) {
+    if !answer::both(answer::is_smoothing(rising), answer::is_smoothing(falling)) {
         return refused(UNMADE, Refusal::BadWorkedNumber);
     }
     Answered {

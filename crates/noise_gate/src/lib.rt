@@ -1,7 +1,6 @@
 // The noise gate: its state, and what its calls answer.
 mod bounds;
 mod calls;
-pub mod in_place;
 mod samples;
 
 use answer::Refusal;

@@ -1,11 +1,10 @@
 -- A call on a gate as bytes, what it tells, and an answer as bytes. Definitions only.
 -- Assumes nothing.
-use Prim.Native.Nat.{ℕ, _+_, _-_}
+use Prim.Native.Nat.{ℕ, min}
 use mathlib.Core.Bool.{cond}
 use mathlib.Core.List.{List}
-use lib.Dec.{eqb, ltb}
-use lib.ListN.{take, drop}
-use lib.Ieee.{Float, binary32, toBits}
+use lib.Dec.{eqb}
+use lib.Ieee.{Float}
 use Rattle.words.specs.Words.{word32At, put32At, put64At}
 use Rattle.answer.specs.Figures.{nought}
 use Rattle.answer.specs.Told.{Told, done}
@@ -15,7 +14,8 @@ use Rattle.noise_gate.specs.Calls as Calls
 use Rattle.noise_gate.specs.declared.Gate.{Gate}
 use Rattle.gate_settings.specs.declared.Setting.{Setting}
 use Rattle.gate_settings.specs.declared.Setting.the-variants.{Threshold, Ratio, Attack, Release, Hold}
-use Rattle.noise_gate_replay.specs.State.{numberAt, gateOf}
+use Rattle.samples.specs.Samples.{floatAt, putFloat, part}
+use Rattle.noise_gate_replay.specs.State.{gateOf}
 use Rattle.noise_gate_replay.specs.State as State
 use Rattle.noise_gate_replay.specs.declared.call.Reply.{Reply}
 
@@ -31,25 +31,22 @@ setting kind value worked =
     (cond (eqb kind 4) (Hold value)
     (Threshold (record { 0 = value }) (record { 0 = worked })))))
 
--- a name begins at 16 and ends at 64 at the latest
-unfoldable pub nameEnd : ℕ → ℕ
-nameEnd length = cond (ltb length 48) (16 + length) 64
-
+-- a name begins at 16 and has at most 48 bytes
 unfoldable pub nameOf : List ℕ → List ℕ
-nameOf bytes = take (nameEnd (word32At bytes 12) - 16) (drop 16 bytes)
+nameOf bytes = part bytes 16 (min (word32At bytes 12) 48)
 
 -- no call has the number: nothing changes
 abbrev pub noCall : Gate → Told Gate
 noCall g = record { state = g; number = 0xffff_ffff; place = 0; count = 0; value = nought }
 
 unfoldable pub made : List ℕ → Told Gate
-made bytes = Calls.make (numberAt bytes 4) (numberAt bytes 8) (numberAt bytes 12)
+made bytes = Calls.make (floatAt bytes 4) (floatAt bytes 8) (floatAt bytes 12)
 
 unfoldable pub typed : Gate → List ℕ → Told Gate
-typed g bytes = Calls.setTyped g (setting (word32At bytes 4) (numberAt bytes 8) (numberAt bytes 12))
+typed g bytes = Calls.setTyped g (setting (word32At bytes 4) (floatAt bytes 8) (floatAt bytes 12))
 
 unfoldable pub named : Gate → List ℕ → Told Gate
-named g bytes = Calls.set g (nameOf bytes) (numberAt bytes 4) (numberAt bytes 8)
+named g bytes = Calls.set g (nameOf bytes) (floatAt bytes 4) (floatAt bytes 8)
 
 -- what the call that has a number tells
 unfoldable pub answerOf : ℕ → Gate → List ℕ → Told Gate
@@ -67,5 +64,5 @@ answerOf number g bytes =
 -- an answer's 84 bytes
 unfoldable pub put : List ℕ → Reply → List ℕ
 put bytes r =
-    let told = put32At (put32At bytes 0 (r .number)) 4 (toBits binary32 (r .value)) in
+    let told = putFloat (put32At bytes 0 (r .number)) 4 (r .value) in
     State.put (put64At (put64At told 8 (r .place)) 16 (r .count)) (r .gate)

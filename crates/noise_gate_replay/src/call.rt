@@ -12,8 +12,6 @@ use noise_gate::Ran;
 use noise_gate::Reading;
 use noise_gate::Setting;
 ghost use mathlib.Core.Path.{_≡_};
-ghost use Prim.Native.Nat.{_≤_};
-ghost use lib.ListN.{length};
 ghost use Rattle.answer.specs.Told.{refused, doneWith, done};
 ghost use Rattle.answer.specs.Figures.{nought};
 ghost use Rattle.noise_gate.specs.Answers.{told, toldRead, toldBlock};
@@ -104,23 +102,12 @@ fn setting(kind: u32, value: f32, worked: f32) -> Setting
     }
 }
 
-// Where the name in a call ends: it begins at 16.
-fn name_end(length: u32) -> usize
-    ensures { λ r. ⌜ (r ≡ Call.nameEnd length) × (16 ≤ r) × (r ≤ 64) ⌝ }
-{
-    if length < 48 {
-        16 + length as usize
-    } else {
-        64
-    }
-}
-
+// The name in a call: it begins at 16.
 fn name_of(bytes: &[u8]) -> &[u8]
-    requires { ⌜ length (now bytes) ≡ 64 ⌝ }
     ensures { λ r. ⌜ now r ≡ Call.nameOf (now (bytes .entry)) ⌝ }
 {
-    let end = name_end(words::u32_at(bytes, 12));
-    &bytes[16..end]
+    let length = samples::least(words::u32_at(bytes, 12) as usize, 48);
+    samples::part(bytes, 16, length)
 }
 
 fn no_call(gate: Gate) -> Reply
@@ -138,9 +125,9 @@ fn no_call(gate: Gate) -> Reply
 fn made(bytes: &[u8]) -> Reply
     ensures { λ r. ⌜ Call.told r ≡ Call.made (now (bytes .entry)) ⌝ }
 {
-    let rate = state::number_at(bytes, 4);
-    let rising = state::number_at(bytes, 8);
-    let falling = state::number_at(bytes, 12);
+    let rate = samples::float_at(bytes, 4);
+    let rising = samples::float_at(bytes, 8);
+    let falling = samples::float_at(bytes, 12);
     answered(noise_gate::make(rate, rising, falling))
 }
 
@@ -148,31 +135,28 @@ fn typed(gate: Gate, bytes: &[u8]) -> Reply
     ensures { λ r. ⌜ Call.told r ≡ Call.typed gate (now (bytes .entry)) ⌝ }
 {
     let kind = words::u32_at(bytes, 4);
-    let value = state::number_at(bytes, 8);
-    let worked = state::number_at(bytes, 12);
+    let value = samples::float_at(bytes, 8);
+    let worked = samples::float_at(bytes, 12);
     answered(noise_gate::set_typed(gate, setting(kind, value, worked)))
 }
 
 fn named(gate: Gate, bytes: &[u8]) -> Reply
-    requires { ⌜ length (now bytes) ≡ 64 ⌝ }
     ensures { λ r. ⌜ Call.told r ≡ Call.named gate (now (bytes .entry)) ⌝ }
 {
-    let value = state::number_at(bytes, 4);
-    let worked = state::number_at(bytes, 8);
+    let value = samples::float_at(bytes, 4);
+    let worked = samples::float_at(bytes, 8);
     answered(noise_gate::set(gate, name_of(bytes), value, worked))
 }
 
 fn named_in_place(gate: Gate, bytes: &[u8]) -> Reply
-    requires { ⌜ length (now bytes) ≡ 64 ⌝ }
     ensures { λ r. ⌜ Call.told r ≡ Call.named gate (now (bytes .entry)) ⌝ }
 {
-    let value = state::number_at(bytes, 4);
-    let worked = state::number_at(bytes, 8);
+    let value = samples::float_at(bytes, 4);
+    let worked = samples::float_at(bytes, 8);
     answered(in_place::set(gate, name_of(bytes), value, worked))
 }
 
 fn read(gate: Gate, bytes: &[u8]) -> Reply
-    requires { ⌜ length (now bytes) ≡ 64 ⌝ }
     ensures { λ r. ⌜ Call.told r ≡ Calls.read gate (Call.nameOf (now (bytes .entry))) ⌝ }
 {
     given(gate, noise_gate::read(gate, name_of(bytes)))
@@ -198,7 +182,6 @@ fn handed_back(bytes: &[u8]) -> Reply
 
 // The call that has the number, and is no block.
 pub fn answer(number: u32, gate: Gate, bytes: &[u8]) -> Reply
-    requires { ⌜ length (now bytes) ≡ 64 ⌝ }
     ensures { λ r. ⌜ Call.told r ≡ Call.answerOf number gate (now (bytes .entry)) ⌝ }
 {
     match number {
@@ -230,7 +213,7 @@ pub fn put(bytes: &mut [u8], r: Reply)
 {
     let gate = r.gate;
     words::put_u32(bytes, 0, r.number);
-    words::put_u32(bytes, 4, float::bits32(r.value));
+    samples::put_float(bytes, 4, r.value);
     words::put_u64(bytes, 8, r.place as u64);
     words::put_u64(bytes, 16, r.count as u64);
     state::put(bytes, gate);

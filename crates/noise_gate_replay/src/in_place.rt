@@ -10,7 +10,7 @@ pub fn set(g: Gate, name: &[u8], value: f32, number: f32) -> Answered
     ensures { λ r. ⌜ told (r .gate) (r .answer) ≡ Calls.set g (now (name .entry)) value number ⌝ }
 {
     let mut kept = g;
-    let answer = noise_gate::in_place::set(&mut kept, name, value, number);
+    let answer = gate_in_place::set(&mut kept, name, value, number);
     Answered { gate: kept, answer }
 }
 
@@ -18,7 +18,7 @@ pub fn reset(g: Gate) -> Answered
     ensures { λ r. ⌜ told (r .gate) (r .answer) ≡ Calls.reset g ⌝ }
 {
     let mut kept = g;
-    let answer = noise_gate::in_place::reset(&mut kept);
+    let answer = gate_in_place::reset(&mut kept);
     Answered { gate: kept, answer }
 }
 
@@ -26,6 +26,6 @@ pub fn block(g: Gate, input: &[f32], output: &mut [f32]) -> Ran
     ensures { λ r. ⌜ (toldBlock (r .gate) (r .answer), now (output .exit)) ≡ Calls.block g (now (input .entry)) (now (output .entry)) ⌝ }
 {
     let mut kept = g;
-    let answer = noise_gate::in_place::block(&mut kept, input, output);
+    let answer = gate_in_place::block(&mut kept, input, output);
     Ran { gate: kept, answer }
 }

@@ -19,7 +19,6 @@
 // answer. A read or a write that fails is named on standard error, and ends the run.
 mod call;
 mod in_place;
-mod samples;
 mod state;
 
 use libc::STDERR_FILENO;
@@ -41,16 +40,6 @@ fn ends(gate: Gate) -> Turn
     ensures { λ r. ⌜ r .gate ≡ gate ⌝ }
 {
     Turn { gate, more: false }
-}
-
-fn at_most(n: u32, most: usize) -> usize
-    ensures { λ r. ⌜ r ≤ most ⌝ }
-{
-    if (n as usize) < most {
-        n as usize
-    } else {
-        most
-    }
 }
 
 // The input did not fill a buffer. Only a read that gives nothing says that it has ended; any other one
@@ -83,7 +72,7 @@ fn answer_call(number: u32, gate: Gate, record: &[u8; 64]) -> Turn
     written(next, &answer)
 }
 
-// A block, and the buffers for its output and its answer.
+// A block, and the buffers for its output and for its answer, which is written whole.
 fn block_answered(
     gate: Gate,
     in_place: bool,
@@ -91,14 +80,13 @@ fn block_answered(
     output: &mut [f32],
     answer: &mut [u8],
 ) -> Turn
-    requires { ⌜ (length (now output) ≤ 4097) × (length (now answer) ≡ 16472) ⌝ }
+    requires { ⌜ 84 ≤ length (now answer) ⌝ }
 {
     let reply = call::block(gate, in_place, input, output);
     call::put(answer, reply);
-    samples::put(answer, 84, output);
+    samples::put(&mut answer[84..], output);
     let next = reply.gate;
-    let length = 84 + output.len() * 4;
-    written(next, &answer[..length])
+    written(next, answer)
 }
 
 // A block, whose samples are read first.
@@ -113,8 +101,8 @@ fn block_read(
 ) -> Turn
     requires { ⌜ (length (now bytes) ≡ 16388) × (length (now input) ≡ 4097) × (length (now output) ≡ 4097) × (length (now answer) ≡ 16472) ⌝ }
 {
-    let n = at_most(words::u32_at(record, 4), 4097);
-    let m = at_most(words::u32_at(record, 8), 4097);
+    let n = samples::least(words::u32_at(record, 4) as usize, 4097);
+    let m = samples::least(words::u32_at(record, 8) as usize, 4097);
     let wanted = n * 4;
     let got = io::read_full(STDIN_FILENO, &mut bytes[..wanted]);
     if got < wanted {
@@ -122,7 +110,14 @@ fn block_read(
         return ends(gate);
     }
     samples::take(&mut input[..n], bytes);
-    block_answered(gate, in_place, &input[..n], &mut output[..m], answer)
+    let end = 84 + m * 4;
+    block_answered(
+        gate,
+        in_place,
+        &input[..n],
+        &mut output[..m],
+        &mut answer[..end],
+    )
 }
 
 fn answer_block(gate: Gate, in_place: bool, record: &[u8; 64]) -> Turn {

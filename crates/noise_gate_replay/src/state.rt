@@ -5,30 +5,23 @@ use noise_gate::Gate;
 use noise_gate::Registers;
 use noise_gate::Settings;
 ghost use mathlib.Core.Path.{_≡_};
-ghost use Prim.Native.Nat.{_+_, _≤_};
 ghost use Rattle.noise_gate_replay.specs.State as State;
-
-pub fn number_at(bytes: &[u8], at: usize) -> f32
-    ensures { λ r. ⌜ r ≡ State.numberAt (now (bytes .entry)) at ⌝ }
-{
-    float::from_bits32(words::u32_at(bytes, at))
-}
 
 fn settings_of(bytes: &[u8]) -> Settings
     ensures { λ r. ⌜ r ≡ State.settingsOf (now (bytes .entry)) ⌝ }
 {
     Settings {
-        rate: number_at(bytes, 4),
-        threshold: Decibels(number_at(bytes, 8)),
-        factor: Factor(number_at(bytes, 12)),
-        ratio: number_at(bytes, 16),
-        attack: number_at(bytes, 20),
-        opening: number_at(bytes, 24),
-        release: number_at(bytes, 28),
-        closing: number_at(bytes, 32),
-        hold: number_at(bytes, 36),
-        rising: number_at(bytes, 40),
-        falling: number_at(bytes, 44),
+        rate: samples::float_at(bytes, 4),
+        threshold: Decibels(samples::float_at(bytes, 8)),
+        factor: Factor(samples::float_at(bytes, 12)),
+        ratio: samples::float_at(bytes, 16),
+        attack: samples::float_at(bytes, 20),
+        opening: samples::float_at(bytes, 24),
+        release: samples::float_at(bytes, 28),
+        closing: samples::float_at(bytes, 32),
+        hold: samples::float_at(bytes, 36),
+        rising: samples::float_at(bytes, 40),
+        falling: samples::float_at(bytes, 44),
     }
 }
 
@@ -36,8 +29,8 @@ fn registers_of(bytes: &[u8]) -> Registers
     ensures { λ r. ⌜ r ≡ State.registersOf (now (bytes .entry)) ⌝ }
 {
     Registers {
-        level: number_at(bytes, 48),
-        state: number_at(bytes, 52),
+        level: samples::float_at(bytes, 48),
+        state: samples::float_at(bytes, 52),
         counter: words::u64_at(bytes, 56),
     }
 }
@@ -52,45 +45,39 @@ pub fn gate_of(bytes: &[u8]) -> Gate
     }
 }
 
-fn put_number(bytes: &mut [u8], at: usize, x: f32)
-    ensures { λ _. ⌜ now (bytes .exit) ≡ State.putNumber (now (bytes .entry)) at x ⌝ }
-{
-    words::put_u32(bytes, at, float::bits32(x));
-}
-
 fn put_levels(bytes: &mut [u8], s: Settings)
     ensures { λ _. ⌜ now (bytes .exit) ≡ State.putLevels (now (bytes .entry)) s ⌝ }
 {
     let d = s.threshold;
     let k = s.factor;
-    put_number(bytes, 24, s.rate);
-    put_number(bytes, 28, d.0);
-    put_number(bytes, 32, k.0);
-    put_number(bytes, 36, s.ratio);
+    samples::put_float(bytes, 24, s.rate);
+    samples::put_float(bytes, 28, d.0);
+    samples::put_float(bytes, 32, k.0);
+    samples::put_float(bytes, 36, s.ratio);
 }
 
 fn put_times(bytes: &mut [u8], s: Settings)
     ensures { λ _. ⌜ now (bytes .exit) ≡ State.putTimes (now (bytes .entry)) s ⌝ }
 {
-    put_number(bytes, 40, s.attack);
-    put_number(bytes, 44, s.opening);
-    put_number(bytes, 48, s.release);
-    put_number(bytes, 52, s.closing);
-    put_number(bytes, 56, s.hold);
+    samples::put_float(bytes, 40, s.attack);
+    samples::put_float(bytes, 44, s.opening);
+    samples::put_float(bytes, 48, s.release);
+    samples::put_float(bytes, 52, s.closing);
+    samples::put_float(bytes, 56, s.hold);
 }
 
 fn put_follower(bytes: &mut [u8], s: Settings)
     ensures { λ _. ⌜ now (bytes .exit) ≡ State.putFollower (now (bytes .entry)) s ⌝ }
 {
-    put_number(bytes, 60, s.rising);
-    put_number(bytes, 64, s.falling);
+    samples::put_float(bytes, 60, s.rising);
+    samples::put_float(bytes, 64, s.falling);
 }
 
 fn put_registers(bytes: &mut [u8], m: Registers)
     ensures { λ _. ⌜ now (bytes .exit) ≡ State.putRegisters (now (bytes .entry)) m ⌝ }
 {
-    put_number(bytes, 68, m.level);
-    put_number(bytes, 72, m.state);
+    samples::put_float(bytes, 68, m.level);
+    samples::put_float(bytes, 72, m.state);
     words::put_u64(bytes, 76, m.counter);
 }
 

@@ -4,7 +4,6 @@ mod ranges;
 
 pub use names::find;
 pub use names::kept;
-pub use ranges::both;
 pub use ranges::finite;
 pub use ranges::in_its_range;
 pub use ranges::lent;

@@ -4,15 +4,9 @@ use crate::Crossover;
 use crate::Numbers;
 use crate::Setting;
 use crate::Settings;
-ghost use mathlib.Core.Bool.{_&&_};
+use answer::both;
 ghost use mathlib.Core.Path.{_≡_};
 ghost use Rattle.saturator_settings.specs.Ranges as Ranges;
-
-pub fn both(a: bool, b: bool) -> bool
-    ensures { λ r. ⌜ r ≡ (a && b) ⌝ }
-{
-    if a { b } else { false }
-}
 
 // Whether the value is a drive's.
 fn is_drive(v: f32) -> bool

@@ -2,8 +2,7 @@
 //
 // A finite value is m * 2 ^ k units of its format's smallest value. The product of two is a number
 // of squares of that unit, and so is the third value: `quick` takes both whole where their
-// exponents are near, and `general` takes the rest, the smaller term cut to an odd number.
-mod general;
+// exponents are near, and `single_general` takes the rest, the smaller term cut to an odd number.
 mod quick;
 
 ghost use mathlib.Core.Path.{_≡_};
@@ -23,7 +22,7 @@ fn outside(a: f32, b: f32, c: f32) -> f32
     if c == 0.0 {
         return bits::settled32(a * b);
     }
-    general::whole(a, b, c)
+    single_general::whole(a, b, c)
 }
 
 // The quick way takes normal factors, and a third term whose exponent lies 62 or more inside the
@@ -53,5 +52,5 @@ pub fn fma(a: f32, b: f32, c: f32) -> f32
     if d <= 38 {
         return quick::close(i, j, k, d);
     }
-    general::whole(a, b, c)
+    single_general::whole(a, b, c)
 }

@@ -1,7 +1,7 @@
 // a * b + c for normal `f32` whose two terms, whole, have 62 digits: one product, one sum, one
 // normalisation.
-use crate::general;
 ghost use mathlib.Core.Path.{_≡_};
+ghost use mathlib.Core.Bool.{cond};
 ghost use Prim.Native.Nat.{_+_, _-_, _*_, _^_, _≤_, _<_};
 ghost use lib.Ieee.{binary32, ofBits, round, sum};
 ghost use lib.Ieee.Nearest.{closest};
@@ -9,6 +9,18 @@ ghost use Rattle.rounding.specs.Steps.{Near};
 ghost use Rattle.rounding.specs.Fma.{fma};
 
 const SIGN: u64 = 0x8000_0000;
+
+// The value of a sign and of a bit pattern without it. `single_general` has this step too: a bound is asked of its
+// caller, and no function that another crate calls asks for one.
+fn signed(s: bool, b: u64) -> f32
+    requires { ⌜ b ≤ 2139095040 ⌝ }
+    ensures { λ r. ⌜ r ≡ ofBits binary32 (cond s 2147483648 0 + b) ⌝ }
+{
+    if s {
+        return f32::from_bits((SIGN + b) as u32);
+    }
+    f32::from_bits(b as u32)
+}
 
 // A number of 63 digits to the nearest of 24, a tie to the even one.
 fn kept(m: u64) -> u64
@@ -27,7 +39,7 @@ fn normal(s: bool, n: u64, x: u64) -> f32
     ensures { λ r. ⌜ r ≡ round binary32 s (n * 2 ^ (x - 2)) (2 ^ 298) ⌝ }
 {
     let t = u64::leading_zeros(n) as u64;
-    general::signed(s, (x - 111 - t << 23) + kept(n << (t - 1)))
+    signed(s, (x - 111 - t << 23) + kept(n << (t - 1)))
 }
 
 // The sum of the terms p * 2 ^ (x - 2) and v * 2 ^ (x - 2), with their signs.

@@ -27,7 +27,7 @@ settled64-requires-4 c κs = search needs
 
 returns : tie.Need-returns
 unfolding step next output
-returns c = cc
+returns c = rw (c .settled644 .ensures, c .before .settled643 .ensures, c .before .before .settled642 .ensures, c .before .before .before .settled64 .ensures, c .before .before .before .before .fma643 .ensures, c .before .before .before .before .before .before .before .fma642 .ensures, c .before .before .before .before .before .before .before .before .fma64 .ensures)
 
 pub step-spec : {M : Type 1} → statement M
 step-spec =

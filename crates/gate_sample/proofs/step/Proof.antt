@@ -37,7 +37,11 @@ settled32-requires-3 c κs = search needs
 
 returns : tie.Need-returns
 unfolding step next level loud counter aim target state gain output ofBits
-returns c = cc
+returns c =
+    let moved = c .before .before .before .before in
+    let aimed = moved .before .before .before in
+    let followed = aimed .before .before .before .before in
+    rw (c .settled323 .ensures, c .before .gain .ensures, c .before .before .settled322 .ensures, c .before .before .before .settled32 .ensures, moved .toward .ensures, moved .before .either2 .ensures, moved .before .before .either .ensures, aimed .aims .ensures, aimed .before .counted .ensures, followed .followed .ensures)
 
 pub step-spec : {M : Type 1} → statement M
 step-spec =

@@ -9,14 +9,20 @@ use Rattle.noise_gate_replay.proofs.block_read.Tie as tie
 u32-at-requires : tie.Need-u32-at-requires
 u32-at-requires c κs = search needs
 
-at-most-requires : tie.Need-at-most-requires
-at-most-requires c κs = search needs
+cast-least : tie.Need-cast-least
+cast-least c = search needs
+
+least-requires : tie.Need-least-requires
+least-requires c κs = search needs
 
 u32-at-requires-2 : tie.Need-u32-at-requires-2
 u32-at-requires-2 c κs = search needs
 
-at-most-requires-2 : tie.Need-at-most-requires-2
-at-most-requires-2 c κs = search needs
+cast-least-2 : tie.Need-cast-least-2
+cast-least-2 c = search needs
+
+least-requires-2 : tie.Need-least-requires-2
+least-requires-2 c κs = search needs
 
 mul-wanted : tie.Need-mul-wanted
 mul-wanted c = search needs
@@ -25,7 +31,7 @@ slice-relend-prefix-read-full : tie.Need-slice-relend-prefix-read-full
 slice-relend-prefix-read-full c = search needs
 
 slice-aggregate-read-full : tie.Need-slice-aggregate-read-full
-slice-aggregate-read-full c = simp length-take (omega arith)
+slice-aggregate-read-full c = rw length-take (omega arith)
 
 read-full-requires : tie.Need-read-full-requires
 read-full-requires c κs = search needs
@@ -46,25 +52,37 @@ slice-relend-prefix-take : tie.Need-slice-relend-prefix-take
 slice-relend-prefix-take c = search needs
 
 slice-aggregate-take : tie.Need-slice-aggregate-take
-slice-aggregate-take c = simp length-take (omega arith)
+slice-aggregate-take c = rw length-take (omega arith)
 
 take-requires : tie.Need-take-requires
-take-requires c κs = simp length-take (omega arith)
+take-requires c κs = search needs
+
+mul-end : tie.Need-mul-end
+mul-end c = search needs
+
+add-end : tie.Need-add-end
+add-end c = search needs
 
 slice-reshare-prefix-block-answered : tie.Need-slice-reshare-prefix-block-answered
 slice-reshare-prefix-block-answered c = search needs
 
 slice-aggregate-block-answered : tie.Need-slice-aggregate-block-answered
-slice-aggregate-block-answered c = simp length-take (omega arith)
+slice-aggregate-block-answered c = rw length-take (omega arith)
 
 slice-relend-prefix-block-answered : tie.Need-slice-relend-prefix-block-answered
 slice-relend-prefix-block-answered c = search needs
 
 slice-aggregate-block-answered-2 : tie.Need-slice-aggregate-block-answered-2
-slice-aggregate-block-answered-2 c = simp length-take (omega arith)
+slice-aggregate-block-answered-2 c = rw length-take (omega arith)
+
+slice-relend-prefix-block-answered-2 : tie.Need-slice-relend-prefix-block-answered-2
+slice-relend-prefix-block-answered-2 c = search needs
+
+slice-aggregate-block-answered-3 : tie.Need-slice-aggregate-block-answered-3
+slice-aggregate-block-answered-3 c = rw length-take (omega arith)
 
 block-answered-requires : tie.Need-block-answered-requires
-block-answered-requires c κs = simp length-take (omega arith)
+block-answered-requires c κs = rw length-take (omega arith)
 
 same-length-2 : tie.Need-same-length-2
 same-length-2 c = search needs
@@ -86,9 +104,11 @@ block-read-spec =
     tie.close
     (tie.spec
     u32-at-requires
-    at-most-requires
+    cast-least
+    least-requires
     u32-at-requires-2
-    at-most-requires-2
+    cast-least-2
+    least-requires-2
     mul-wanted
     slice-relend-prefix-read-full
     slice-aggregate-read-full
@@ -100,10 +120,14 @@ block-read-spec =
     slice-relend-prefix-take
     slice-aggregate-take
     take-requires
+    mul-end
+    add-end
     slice-reshare-prefix-block-answered
     slice-aggregate-block-answered
     slice-relend-prefix-block-answered
     slice-aggregate-block-answered-2
+    slice-relend-prefix-block-answered-2
+    slice-aggregate-block-answered-3
     block-answered-requires
     same-length-2
     same-length-3

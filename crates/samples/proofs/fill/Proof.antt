@@ -33,7 +33,7 @@ loop-less c = omega arith
 
 loop-again : tie.Need-loop-again Inv-loop μ-loop
 unfolding filled
-loop-again c = (search needs, search needs, rw add-one (cc))
+loop-again c = (search needs, search needs, rw (add-one, c .before .loop .inv .2))
 
 same-length : tie.Need-same-length Inv-loop μ-loop
 same-length c = search needs

@@ -34,7 +34,7 @@ past a b = omega arith
 
 returns : tie.Need-returns
 unfolding part
-returns c = rw (past _ _) (cc)
+returns c = rw (past _ _, c .before .least2 .ensures .0, c .before .before .least .ensures .0)
 
 pub part-spec : {M : Type 1} → statement M
 part-spec =

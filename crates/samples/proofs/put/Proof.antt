@@ -45,7 +45,7 @@ unfolding put
 next samples n bytes = rw add-one
 
 loop-again : tie.Need-loop-again Inv-loop μ-loop
-loop-again c = (search needs, search needs, rw next (cc))
+loop-again c = (search needs, search needs, rw (next, c .before .before .put-float .ensures, c .before .before .before .before .before .before .loop .inv .2))
 
 same-length : tie.Need-same-length Inv-loop μ-loop
 same-length c = search needs

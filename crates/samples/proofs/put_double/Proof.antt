@@ -14,7 +14,7 @@ same-length : tie.Need-same-length
 same-length c = search needs
 
 returns : tie.Need-returns
-returns c = cc
+returns c = rw (c .before .before .put-u64 .ensures, c .before .before .before .bits64 .ensures)
 
 pub put-double-spec : {M : Type 1} → statement M
 put-double-spec = tie.close (tie.spec bits64-requires put-u64-requires same-length returns)

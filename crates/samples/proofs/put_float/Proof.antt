@@ -14,7 +14,7 @@ same-length : tie.Need-same-length
 same-length c = search needs
 
 returns : tie.Need-returns
-returns c = cc
+returns c = rw (c .before .before .put-u32 .ensures, c .before .before .before .bits32 .ensures)
 
 pub put-float-spec : {M : Type 1} → statement M
 put-float-spec = tie.close (tie.spec bits32-requires put-u32-requires same-length returns)

@@ -40,7 +40,7 @@ loop-less c = omega arith
 
 loop-again : tie.Need-loop-again Inv-loop μ-loop
 unfolding taken
-loop-again c = (search needs, search needs, rw add-one (cc))
+loop-again c = (search needs, search needs, rw (add-one, c .float-at .ensures, c .before .before .loop .inv .2))
 
 same-length : tie.Need-same-length Inv-loop μ-loop
 same-length c = search needs

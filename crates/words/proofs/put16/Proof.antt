@@ -1,5 +1,6 @@
 -- `words::put16` meets its contract.
 -- Assumes nothing.
+use mathlib.Core.Path.{refl}
 use borrow.Author.Needs.{needs}
 use native.Mathlib.Omega.{arith}
 use lib.ListN.{length-set}
@@ -27,7 +28,7 @@ same-length c = search needs
 
 returns : tie.Need-returns
 unfolding put16
-returns c = cc
+returns c = refl
 
 pub put16-spec : {M : Type 1} → statement M
 put16-spec =

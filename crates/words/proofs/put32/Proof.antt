@@ -25,7 +25,7 @@ same-length c = search needs
 
 returns : tie.Need-returns
 unfolding put32
-returns c = cc
+returns c = rw (c .before .before .put162 .ensures, c .before .before .before .before .before .before .put16 .ensures)
 
 pub put32-spec : {M : Type 1} → statement M
 put32-spec =

@@ -25,7 +25,7 @@ same-length c = search needs
 
 returns : tie.Need-returns
 unfolding put64
-returns c = cc
+returns c = rw (c .before .before .put322 .ensures, c .before .before .before .before .before .before .put32 .ensures)
 
 pub put64-spec : {M : Type 1} → statement M
 put64-spec =

@@ -28,7 +28,7 @@ add-result c = search needs
 
 returns : tie.Need-returns
 unfolding word32
-returns c = cc
+returns c = rw (c .word162 .ensures, c .before .word16 .ensures)
 
 pub word32-spec : {M : Type 1} → statement M
 word32-spec =

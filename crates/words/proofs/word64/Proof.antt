@@ -28,7 +28,7 @@ add-result c = search needs
 
 returns : tie.Need-returns
 unfolding word64
-returns c = cc
+returns c = rw (c .word322 .ensures, c .before .word32 .ensures)
 
 pub word64-spec : {M : Type 1} → statement M
 word64-spec =

@@ -15,7 +15,7 @@ same-length c = search needs
 
 returns : tie.Need-returns
 unfolding put
-returns c = cc
+returns c = rw (c .before .before .put-u64 .ensures, c .before .before .before .before .before .before .put-u32 .ensures)
 
 pub put-spec : {M : Type 1} → statement M
 put-spec = tie.close (tie.spec put-u32-requires put-u64-requires same-length returns)

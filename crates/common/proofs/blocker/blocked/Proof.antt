@@ -15,7 +15,7 @@ settled32-requires-2 c κs = search needs
 
 returns : tie.Need-returns
 unfolding blocked
-returns c = cc
+returns c = rw (c .settled322 .ensures, c .before .settled32 .ensures, c .before .before .fma32 .ensures)
 
 pub blocked-spec : {M : Type 1} → statement M
 blocked-spec = tie.close (tie.spec fma32-requires settled32-requires settled32-requires-2 returns)

@@ -4,7 +4,7 @@ use Rattle.common_replay.proofs.calls.number_at.Statement.{statement}
 use Rattle.common_replay.proofs.calls.number_at.Tie as tie
 
 returns : tie.Need-returns
-returns c = cc
+returns c = rw (c .from-bits32 .ensures, c .before .u32-at .ensures)
 
 pub number-at-spec : {M : Type 1} → statement M
 number-at-spec = tie.close (tie.spec

@@ -7,7 +7,7 @@ use Rattle.common_replay.proofs.calls.put.Tie as tie
 
 returns : tie.Need-returns
 unfolding put
-returns c = cc
+returns c = rw (c .before .before .put-u325 .ensures, c .before .before .before .before .before .before .put-u324 .ensures, c .before .before .before .before .before .before .before .before .before .before .put-u323 .ensures, c .before .before .before .before .before .before .before .before .before .before .before .before .before .before .put-u322 .ensures, c .before .before .before .before .before .before .before .before .before .before .before .before .before .before .before .before .before .before .put-u32 .ensures)
 
 pub put-spec : {M : Type 1} → statement M
 put-spec =

@@ -11,7 +11,7 @@ in-range-requires c κs = search needs
 
 returns : tie.Need-returns
 unfolding inItsRange f32 ofBits neg
-returns c = cc
+returns c = rw (c .in-range .ensures)
 
 pub in-its-range-spec : {M : Type 1} → statement M
 in-its-range-spec = tie.close (tie.spec in-range-requires returns)

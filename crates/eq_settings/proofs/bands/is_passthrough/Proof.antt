@@ -34,7 +34,7 @@ both-requires-4 c κs = search needs
 
 returns : tie.Need-returns
 unfolding isPassthrough toBits
-returns c = cc
+returns c = rw (c .both4 .ensures, c .before .bits645 .ensures, c .before .before .both3 .ensures, c .before .before .before .bits644 .ensures, c .before .before .before .before .both2 .ensures, c .before .before .before .before .before .bits643 .ensures, c .before .before .before .before .before .before .both .ensures, c .before .before .before .before .before .before .before .bits642 .ensures, c .before .before .before .before .before .before .before .before .bits64 .ensures)
 
 pub is-passthrough-spec : {M : Type 1} → statement M
 is-passthrough-spec =

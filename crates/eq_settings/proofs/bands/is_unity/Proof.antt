@@ -14,7 +14,7 @@ size64-requires c κs = search needs
 
 returns : tie.Need-returns
 unfolding isUnity f64 ofBits
-returns c = cc
+returns c = rw (c .size64 .ensures, c .before .widened .ensures)
 
 pub is-unity-spec : {M : Type 1} → statement M
 is-unity-spec = tie.close (tie.spec widened-requires size64-requires returns)

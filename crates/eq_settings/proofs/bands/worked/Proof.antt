@@ -33,7 +33,7 @@ both-requires-4 c κs = search needs
 
 returns : tie.Need-returns
 unfolding worked
-returns c = cc
+returns c = rw (c .both4 .ensures, c .before .finite645 .ensures, c .before .before .both3 .ensures, c .before .before .before .finite644 .ensures, c .before .before .before .before .both2 .ensures, c .before .before .before .before .before .finite643 .ensures, c .before .before .before .before .before .before .both .ensures, c .before .before .before .before .before .before .before .finite642 .ensures, c .before .before .before .before .before .before .before .before .finite64 .ensures)
 
 pub worked-spec : {M : Type 1} → statement M
 worked-spec =

@@ -23,7 +23,7 @@ loop-holds c = search needs
 
 loop-again : tie.Need-loop-again Inv-loop μ-loop
 unfolding answered
-loop-again c = (search needs, search needs, rw add-one (cc))
+loop-again c = (search needs, search needs, rw (add-one, c .before .before .put-u64 .ensures, c .before .before .before .before .answer-at .ensures, c .before .before .before .before .before .before .loop .inv .2))
 
 returns : tie.Need-returns Inv-loop μ-loop
 returns c =

@@ -7,7 +7,7 @@ use Rattle.float_replay.proofs.case.answer_at.Tie as tie
 
 returns : tie.Need-returns
 unfolding answerAt
-returns c = cc
+returns c = rw (c .answer-of .ensures, c .before .u64-at3 .ensures, c .before .before .u64-at2 .ensures, c .before .before .before .u64-at .ensures)
 
 pub answer-at-spec : {M : Type 1} → statement M
 answer-at-spec =

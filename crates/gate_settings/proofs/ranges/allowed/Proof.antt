@@ -15,7 +15,7 @@ both-requires c κs = search needs
 
 returns : tie.Need-returns
 unfolding allowed
-returns c = cc
+returns c = rw (c .both .ensures, c .before .worked .ensures, c .before .before .in-its-range .ensures)
 
 pub allowed-spec : {M : Type 1} → statement M
 allowed-spec = tie.close (tie.spec in-its-range-requires worked-requires both-requires returns)

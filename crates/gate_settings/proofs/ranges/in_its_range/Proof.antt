@@ -38,23 +38,23 @@ in-range-requires-5 c κs = search needs
 
 returns : tie.Need-returns
 unfolding inItsRange f32 ofBits neg
-returns c = cc
+returns c = rw (c .in-range .ensures, c .before .before .t .given .1)
 
 returns-2 : tie.Need-returns-2
 unfolding inItsRange f32 ofBits neg
-returns-2 c = cc
+returns-2 c = rw (c .in-range2 .ensures, c .before .before .t2 .given .1)
 
 returns-3 : tie.Need-returns-3
 unfolding inItsRange f32 ofBits neg
-returns-3 c = cc
+returns-3 c = rw (c .in-range3 .ensures, c .before .before .t3 .given .1)
 
 returns-4 : tie.Need-returns-4
 unfolding inItsRange f32 ofBits neg
-returns-4 c = cc
+returns-4 c = rw (c .in-range4 .ensures, c .before .before .t4 .given .1)
 
 returns-5 : tie.Need-returns-5
 unfolding inItsRange f32 ofBits neg
-returns-5 c = cc
+returns-5 c = rw (c .in-range5 .ensures, c .before .before .t5 .given .1)
 
 pub in-its-range-spec : {M : Type 1} → statement M
 in-its-range-spec =

@@ -51,7 +51,14 @@ both-requires-7 c κs = search needs
 
 returns : tie.Need-returns
 unfolding settable
-returns c = cc
+returns c =
+    let threshold = c .before .before in
+    let ratio = threshold .before .before .before .before in
+    let attack = ratio .before .before in
+    let release = attack .before .before in
+    let hold = release .before .before in
+    let smoothing = hold .before .before in
+    rw (c .both7 .ensures, c .before .is-rate .ensures, threshold .both6 .ensures, threshold .before .allowed5 .ensures, ratio .both5 .ensures, ratio .before .allowed4 .ensures, attack .both4 .ensures, attack .before .allowed3 .ensures, release .both3 .ensures, release .before .allowed2 .ensures, hold .both2 .ensures, hold .before .allowed .ensures, smoothing .both .ensures, smoothing .before .is-smoothing2 .ensures, smoothing .before .before .is-smoothing .ensures)
 
 pub settable-spec : {M : Type 1} → statement M
 settable-spec =

@@ -32,23 +32,23 @@ enum-told-2 c = search needs
 
 returns : tie.Need-returns
 unfolding worked f32 ofBits
-returns c = cc
+returns c = rw (c .in-range .ensures, c .before .before .t .given .1)
 
 returns-2 : tie.Need-returns-2
 unfolding worked
-returns-2 c = cc
+returns-2 c = rw (c .enum-told .given .1)
 
 returns-3 : tie.Need-returns-3
 unfolding worked
-returns-3 c = cc
+returns-3 c = rw (c .is-smoothing .ensures, c .before .before .t2 .given .1)
 
 returns-4 : tie.Need-returns-4
 unfolding worked
-returns-4 c = cc
+returns-4 c = rw (c .is-smoothing2 .ensures, c .before .before .t3 .given .1)
 
 returns-5 : tie.Need-returns-5
 unfolding worked
-returns-5 c = cc
+returns-5 c = rw (c .enum-told2 .given .1)
 
 pub worked-spec : {M : Type 1} → statement M
 worked-spec =

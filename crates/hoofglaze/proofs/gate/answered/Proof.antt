@@ -18,10 +18,10 @@ refused-requires c κs = search needs
 
 returns : tie.Need-returns
 unfolding ofBits
-returns c = cc
+returns c = rw (c .done .ensures, c .before .enum-told .given .1)
 
 returns-2 : tie.Need-returns-2
-returns-2 c = cc
+returns-2 c = rw (c .refused .ensures, c .before .before .a .given .1)
 
 pub answered-spec : {M : Type 1} → statement M
 answered-spec =

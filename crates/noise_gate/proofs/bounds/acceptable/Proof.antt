@@ -15,7 +15,7 @@ both-requires c κs = search needs
 
 returns : tie.Need-returns
 unfolding acceptable
-returns c = cc
+returns c = rw (c .both .ensures, c .before .in-bounds .ensures, c .before .before .settable .ensures)
 
 pub acceptable-spec : {M : Type 1} → statement M
 acceptable-spec = tie.close (tie.spec settable-requires in-bounds-requires both-requires returns)

@@ -20,7 +20,7 @@ both-requires-2 c κs = search needs
 
 returns : tie.Need-returns
 unfolding inBounds f32 ofBits
-returns c = cc
+returns c = rw (c .both2 .ensures, c .before .in-range2 .ensures, c .before .before .both .ensures, c .before .before .before .before .in-range .ensures)
 
 pub in-bounds-spec : {M : Type 1} → statement M
 in-bounds-spec =

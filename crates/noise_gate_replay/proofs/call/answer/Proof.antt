@@ -35,39 +35,39 @@ no-call-requires c κs = search needs
 
 returns : tie.Need-returns
 unfolding answerOf
-returns c = rw (c .before .match .keys1) (cc)
+returns c = rw (c .before .match .keys1) (c .made .ensures)
 
 returns-2 : tie.Need-returns-2
 unfolding answerOf
-returns-2 c = rw (c .before .match .keys2) (cc)
+returns-2 c = rw (c .before .match .keys2) (c .typed .ensures)
 
 returns-3 : tie.Need-returns-3
 unfolding answerOf
-returns-3 c = rw (c .before .match .keys3) (cc)
+returns-3 c = rw (c .before .match .keys3) (c .named .ensures)
 
 returns-4 : tie.Need-returns-4
 unfolding answerOf
-returns-4 c = rw (c .before .match .keys4) (cc)
+returns-4 c = rw (c .before .match .keys4) (c .read .ensures)
 
 returns-5 : tie.Need-returns-5
 unfolding answerOf
-returns-5 c = rw (c .before .match .keys5) (cc)
+returns-5 c = rw (c .before .match .keys5) (c .reset .ensures)
 
 returns-6 : tie.Need-returns-6
 unfolding answerOf
-returns-6 c = rw (c .before .match .keys6) (cc)
+returns-6 c = rw (c .before .match .keys6) (c .handed-back .ensures)
 
 returns-7 : tie.Need-returns-7
 unfolding answerOf
-returns-7 c = rw (c .before .match .keys7) (cc)
+returns-7 c = rw (c .before .match .keys7) (c .named-in-place .ensures)
 
 returns-8 : tie.Need-returns-8
 unfolding answerOf
-returns-8 c = rw (c .before .match .keys8) (cc)
+returns-8 c = rw (c .before .match .keys8) (c .reset-in-place .ensures)
 
 returns-9 : tie.Need-returns-9
 unfolding answerOf
-returns-9 c = let r = c .before .match .rest in simp (ne-eqb _ 1 (r .0 .0 .0 .0 .0 .0 .0 .1), ne-eqb _ 2 (r .0 .0 .0 .0 .0 .0 .1), ne-eqb _ 3 (r .0 .0 .0 .0 .0 .1), ne-eqb _ 4 (r .0 .0 .0 .0 .1), ne-eqb _ 5 (r .0 .0 .0 .1), ne-eqb _ 7 (r .0 .0 .1), ne-eqb _ 8 (r .0 .1), ne-eqb _ 9 (r .1)) (cc)
+returns-9 c = let r = c .before .match .rest in simp (ne-eqb _ 1 (r .0 .0 .0 .0 .0 .0 .0 .1), ne-eqb _ 2 (r .0 .0 .0 .0 .0 .0 .1), ne-eqb _ 3 (r .0 .0 .0 .0 .0 .1), ne-eqb _ 4 (r .0 .0 .0 .0 .1), ne-eqb _ 5 (r .0 .0 .0 .1), ne-eqb _ 7 (r .0 .0 .1), ne-eqb _ 8 (r .0 .1), ne-eqb _ 9 (r .1)) (c .no-call .ensures)
 
 pub answer-spec : {M : Type 1} → statement M
 answer-spec =

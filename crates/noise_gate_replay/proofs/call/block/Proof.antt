@@ -14,7 +14,7 @@ same-length : tie.Need-same-length
 same-length c = search needs
 
 returns : tie.Need-returns
-returns c = cc
+returns c = rw (c .ran .ensures, c .before .before .before .block .ensures)
 
 block-requires-2 : tie.Need-block-requires-2
 block-requires-2 c κs = search needs
@@ -26,7 +26,7 @@ same-length-2 : tie.Need-same-length-2
 same-length-2 c = search needs
 
 returns-2 : tie.Need-returns-2
-returns-2 c = cc
+returns-2 c = rw (c .ran2 .ensures, c .before .before .before .block2 .ensures)
 
 pub block-spec : {M : Type 1} → statement M
 block-spec =

@@ -13,7 +13,7 @@ done-requires c κs = search needs
 
 returns : tie.Need-returns
 unfolding ofBits
-returns c = cc
+returns c = rw (c .done .ensures, c .before .gate-of .ensures)
 
 pub handed-back-spec : {M : Type 1} → statement M
 handed-back-spec = tie.close (tie.spec gate-of-requires done-requires returns)

@@ -8,29 +8,19 @@ use Rattle.noise_gate_replay.proofs.call.name_of.Tie as tie
 u32-at-requires : tie.Need-u32-at-requires
 u32-at-requires c κs = search needs
 
-name-end-requires : tie.Need-name-end-requires
-name-end-requires c κs = search needs
+cast-least : tie.Need-cast-least
+cast-least c = search needs
 
-sub-result : tie.Need-sub-result
-sub-result c = search needs
+least-requires : tie.Need-least-requires
+least-requires c κs = search needs
 
-part-result-start : tie.Need-part-result-start
-part-result-start c = search needs
-
-part-result-end : tie.Need-part-result-end
-part-result-end c = search needs
+part-requires : tie.Need-part-requires
+part-requires c κs = search needs
 
 returns : tie.Need-returns
 unfolding nameOf
-returns c = cc
+returns c = rw (c .part .ensures, c .before .least .ensures .0, c .before .before .u32-at .ensures)
 
 pub name-of-spec : {M : Type 1} → statement M
 name-of-spec =
-    tie.close
-    (tie.spec
-    u32-at-requires
-    name-end-requires
-    sub-result
-    part-result-start
-    part-result-end
-    returns)
+    tie.close (tie.spec u32-at-requires cast-least least-requires part-requires returns)

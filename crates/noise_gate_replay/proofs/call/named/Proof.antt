@@ -5,11 +5,11 @@ use borrow.Author.Needs.{needs}
 use Rattle.noise_gate_replay.proofs.call.named.Statement.{statement}
 use Rattle.noise_gate_replay.proofs.call.named.Tie as tie
 
-number-at-requires : tie.Need-number-at-requires
-number-at-requires c κs = search needs
+float-at-requires : tie.Need-float-at-requires
+float-at-requires c κs = search needs
 
-number-at-requires-2 : tie.Need-number-at-requires-2
-number-at-requires-2 c κs = search needs
+float-at-requires-2 : tie.Need-float-at-requires-2
+float-at-requires-2 c κs = search needs
 
 name-of-requires : tie.Need-name-of-requires
 name-of-requires c κs = search needs
@@ -22,14 +22,14 @@ answered-requires c κs = search needs
 
 returns : tie.Need-returns
 unfolding named
-returns c = cc
+returns c = rw (c .answered .ensures, c .before .set .ensures, c .before .before .name-of .ensures, c .before .before .before .float-at2 .ensures, c .before .before .before .before .float-at .ensures)
 
 pub named-spec : {M : Type 1} → statement M
 named-spec =
     tie.close
     (tie.spec
-    number-at-requires
-    number-at-requires-2
+    float-at-requires
+    float-at-requires-2
     name-of-requires
     set-requires
     answered-requires

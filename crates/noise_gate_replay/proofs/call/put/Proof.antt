@@ -8,11 +8,8 @@ use Rattle.noise_gate_replay.proofs.call.put.Tie as tie
 put-u32-requires : tie.Need-put-u32-requires
 put-u32-requires c κs = search needs
 
-bits32-requires : tie.Need-bits32-requires
-bits32-requires c κs = search needs
-
-put-u32-requires-2 : tie.Need-put-u32-requires-2
-put-u32-requires-2 c κs = search needs
+put-float-requires : tie.Need-put-float-requires
+put-float-requires c κs = search needs
 
 put-u64-requires : tie.Need-put-u64-requires
 put-u64-requires c κs = search needs
@@ -28,15 +25,14 @@ same-length c = search needs
 
 returns : tie.Need-returns
 unfolding put
-returns c = cc
+returns c = rw (c .before .before .put .ensures, c .before .before .before .before .before .before .put-u642 .ensures, c .before .before .before .before .before .before .before .before .before .before .put-u64 .ensures, c .before .before .before .before .before .before .before .before .before .before .before .before .before .before .put-float .ensures, c .before .before .before .before .before .before .before .before .before .before .before .before .before .before .before .before .before .before .put-u32 .ensures)
 
 pub put-spec : {M : Type 1} → statement M
 put-spec =
     tie.close
     (tie.spec
     put-u32-requires
-    bits32-requires
-    put-u32-requires-2
+    put-float-requires
     put-u64-requires
     put-u64-requires-2
     put-requires

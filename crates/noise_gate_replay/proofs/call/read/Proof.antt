@@ -14,7 +14,7 @@ given-requires : tie.Need-given-requires
 given-requires c κs = search needs
 
 returns : tie.Need-returns
-returns c = cc
+returns c = rw (c .given .ensures, c .before .read .ensures, c .before .before .name-of .ensures)
 
 pub read-spec : {M : Type 1} → statement M
 read-spec = tie.close (tie.spec name-of-requires read-requires given-requires returns)

@@ -11,7 +11,7 @@ answered-requires : tie.Need-answered-requires
 answered-requires c κs = search needs
 
 returns : tie.Need-returns
-returns c = cc
+returns c = rw (c .answered .ensures, c .before .reset .ensures)
 
 pub reset-in-place-spec : {M : Type 1} → statement M
 reset-in-place-spec = tie.close (tie.spec reset-requires answered-requires returns)

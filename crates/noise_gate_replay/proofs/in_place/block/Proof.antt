@@ -54,10 +54,10 @@ use Rattle.noise_gate.proofs.Ran.Laws as R′
 use Rattle.noise_gate.specs.declared.Passage.{Passage}
 use Rattle.noise_gate.proofs.Passage as E
 use Rattle.noise_gate.proofs.Passage.Laws as E′
-use Rattle.noise_gate.proofs.in_place.block as callee
-use Rattle.noise_gate.proofs.in_place.block.Symbol as callee-def
-use Rattle.noise_gate.proofs.in_place.block.Symbol.{name as #callee}
-use Rattle.noise_gate.proofs.in_place.block.Met as callee-thm
+use Rattle.gate_in_place.proofs.block as callee
+use Rattle.gate_in_place.proofs.block.Symbol as callee-def
+use Rattle.gate_in_place.proofs.block.Symbol.{name as #callee}
+use Rattle.gate_in_place.proofs.block.Met as callee-thm
 use Rattle.noise_gate_replay.proofs.in_place.block.Key.{name as #own}
 use Rattle.noise_gate_replay.proofs.in_place.block as fn′
 use Rattle.noise_gate_replay.proofs.in_place.block.Statement as stated
@@ -180,4 +180,4 @@ block-spec 𝓤 H 𝓜 𝓖 𝓡 =
     entered 𝓤 H (tripleOf 𝓤 H (𝓖 .A) fn′.signature (fn′.spec 𝓤 H (𝓖 .A) (𝓜 .mem) (𝓡 .run)))
     (tables 𝓤 H 𝓜 𝓡 Code′.env .C) (tables 𝓤 H 𝓜 𝓡 Code′.env .Λ) #own Code′.function (Code′.unfolded 𝓤 H 𝓜 𝓡)
     (meets 𝓤 H (𝓖 .A) (givenOf 𝓤 H 𝓜 𝓖) (𝓜 .mem) (𝓡 .run) (tablesOf 𝓤 H 𝓜 (tables 𝓤 H 𝓜 𝓡 Code′.env))
-    (cited 𝓤 H (Callee 𝓤 H (𝓖 .A) (𝓜 .mem) (𝓡 .run)) 𝓜 𝓡 Code′.env #callee callee-def.routine Code′.calls-noise-gate·in-place·block (callee-thm.met 𝓤 H 𝓜 𝓖 𝓡)))
+    (cited 𝓤 H (Callee 𝓤 H (𝓖 .A) (𝓜 .mem) (𝓡 .run)) 𝓜 𝓡 Code′.env #callee callee-def.routine Code′.calls-gate-in-place·block (callee-thm.met 𝓤 H 𝓜 𝓖 𝓡)))

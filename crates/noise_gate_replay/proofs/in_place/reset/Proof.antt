@@ -49,10 +49,10 @@ use Rattle.noise_gate.proofs.Answered.Laws as R′
 use Rattle.noise_gate.specs.declared.Answer.{Answer}
 use Rattle.noise_gate.proofs.Answer as E
 use Rattle.noise_gate.proofs.Answer.Laws as E′
-use Rattle.noise_gate.proofs.in_place.reset as callee
-use Rattle.noise_gate.proofs.in_place.reset.Symbol as callee-def
-use Rattle.noise_gate.proofs.in_place.reset.Symbol.{name as #callee}
-use Rattle.noise_gate.proofs.in_place.reset.Met as callee-thm
+use Rattle.gate_in_place.proofs.reset as callee
+use Rattle.gate_in_place.proofs.reset.Symbol as callee-def
+use Rattle.gate_in_place.proofs.reset.Symbol.{name as #callee}
+use Rattle.gate_in_place.proofs.reset.Met as callee-thm
 use Rattle.noise_gate_replay.proofs.in_place.reset.Key.{name as #own}
 use Rattle.noise_gate_replay.proofs.in_place.reset as fn′
 use Rattle.noise_gate_replay.proofs.in_place.reset.Statement as stated
@@ -167,4 +167,4 @@ reset-spec 𝓤 H 𝓜 𝓖 𝓡 =
     entered 𝓤 H (tripleOf 𝓤 H (𝓖 .A) fn′.signature (fn′.spec 𝓤 H (𝓖 .A) (𝓜 .mem) (𝓡 .run)))
     (tables 𝓤 H 𝓜 𝓡 Code′.env .C) (tables 𝓤 H 𝓜 𝓡 Code′.env .Λ) #own Code′.function (Code′.unfolded 𝓤 H 𝓜 𝓡)
     (meets 𝓤 H (𝓖 .A) (givenOf 𝓤 H 𝓜 𝓖) (𝓜 .mem) (𝓡 .run) (tablesOf 𝓤 H 𝓜 (tables 𝓤 H 𝓜 𝓡 Code′.env))
-    (cited 𝓤 H (Callee 𝓤 H (𝓖 .A) (𝓜 .mem) (𝓡 .run)) 𝓜 𝓡 Code′.env #callee callee-def.routine Code′.calls-noise-gate·in-place·reset (callee-thm.met 𝓤 H 𝓜 𝓖 𝓡)))
+    (cited 𝓤 H (Callee 𝓤 H (𝓖 .A) (𝓜 .mem) (𝓡 .run)) 𝓜 𝓡 Code′.env #callee callee-def.routine Code′.calls-gate-in-place·reset (callee-thm.met 𝓤 H 𝓜 𝓖 𝓡)))

@@ -13,7 +13,7 @@ registers-of-requires c κs = search needs
 
 returns : tie.Need-returns
 unfolding gateOf
-returns c = cc
+returns c = rw (c .registers-of .ensures, c .before .settings-of .ensures)
 
 pub gate-of-spec : {M : Type 1} → statement M
 gate-of-spec = tie.close (tie.spec settings-of-requires registers-of-requires returns)

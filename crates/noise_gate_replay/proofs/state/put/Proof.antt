@@ -22,7 +22,7 @@ same-length c = search needs
 
 returns : tie.Need-returns
 unfolding put
-returns c = cc
+returns c = rw (c .before .before .put-registers .ensures, c .before .before .before .before .before .before .put-follower .ensures, c .before .before .before .before .before .before .before .before .before .before .put-times .ensures, c .before .before .before .before .before .before .before .before .before .before .before .before .before .before .put-levels .ensures)
 
 pub put-spec : {M : Type 1} → statement M
 put-spec =

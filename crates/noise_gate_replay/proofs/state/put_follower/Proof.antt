@@ -5,19 +5,19 @@ use borrow.Author.Needs.{needs}
 use Rattle.noise_gate_replay.proofs.state.put_follower.Statement.{statement}
 use Rattle.noise_gate_replay.proofs.state.put_follower.Tie as tie
 
-put-number-requires : tie.Need-put-number-requires
-put-number-requires c κs = search needs
+put-float-requires : tie.Need-put-float-requires
+put-float-requires c κs = search needs
 
-put-number-requires-2 : tie.Need-put-number-requires-2
-put-number-requires-2 c κs = search needs
+put-float-requires-2 : tie.Need-put-float-requires-2
+put-float-requires-2 c κs = search needs
 
 same-length : tie.Need-same-length
 same-length c = search needs
 
 returns : tie.Need-returns
 unfolding putFollower
-returns c = cc
+returns c = rw (c .before .before .put-float2 .ensures, c .before .before .before .before .before .before .put-float .ensures)
 
 pub put-follower-spec : {M : Type 1} → statement M
 put-follower-spec =
-    tie.close (tie.spec put-number-requires put-number-requires-2 same-length returns)
+    tie.close (tie.spec put-float-requires put-float-requires-2 same-length returns)

@@ -5,11 +5,11 @@ use borrow.Author.Needs.{needs}
 use Rattle.noise_gate_replay.proofs.state.put_registers.Statement.{statement}
 use Rattle.noise_gate_replay.proofs.state.put_registers.Tie as tie
 
-put-number-requires : tie.Need-put-number-requires
-put-number-requires c κs = search needs
+put-float-requires : tie.Need-put-float-requires
+put-float-requires c κs = search needs
 
-put-number-requires-2 : tie.Need-put-number-requires-2
-put-number-requires-2 c κs = search needs
+put-float-requires-2 : tie.Need-put-float-requires-2
+put-float-requires-2 c κs = search needs
 
 put-u64-requires : tie.Need-put-u64-requires
 put-u64-requires c κs = search needs
@@ -19,9 +19,9 @@ same-length c = search needs
 
 returns : tie.Need-returns
 unfolding putRegisters
-returns c = cc
+returns c = rw (c .before .before .put-u64 .ensures, c .before .before .before .before .before .before .put-float2 .ensures, c .before .before .before .before .before .before .before .before .before .before .put-float .ensures)
 
 pub put-registers-spec : {M : Type 1} → statement M
 put-registers-spec =
     tie.close
-    (tie.spec put-number-requires put-number-requires-2 put-u64-requires same-length returns)
+    (tie.spec put-float-requires put-float-requires-2 put-u64-requires same-length returns)

@@ -5,19 +5,19 @@ use borrow.Author.Needs.{needs}
 use Rattle.noise_gate_replay.proofs.state.registers_of.Statement.{statement}
 use Rattle.noise_gate_replay.proofs.state.registers_of.Tie as tie
 
-number-at-requires : tie.Need-number-at-requires
-number-at-requires c κs = search needs
+float-at-requires : tie.Need-float-at-requires
+float-at-requires c κs = search needs
 
-number-at-requires-2 : tie.Need-number-at-requires-2
-number-at-requires-2 c κs = search needs
+float-at-requires-2 : tie.Need-float-at-requires-2
+float-at-requires-2 c κs = search needs
 
 u64-at-requires : tie.Need-u64-at-requires
 u64-at-requires c κs = search needs
 
 returns : tie.Need-returns
 unfolding registersOf
-returns c = cc
+returns c = rw (c .u64-at .ensures, c .before .float-at2 .ensures, c .before .before .float-at .ensures)
 
 pub registers-of-spec : {M : Type 1} → statement M
 registers-of-spec =
-    tie.close (tie.spec number-at-requires number-at-requires-2 u64-at-requires returns)
+    tie.close (tie.spec float-at-requires float-at-requires-2 u64-at-requires returns)

@@ -5,56 +5,56 @@ use borrow.Author.Needs.{needs}
 use Rattle.noise_gate_replay.proofs.state.settings_of.Statement.{statement}
 use Rattle.noise_gate_replay.proofs.state.settings_of.Tie as tie
 
-number-at-requires : tie.Need-number-at-requires
-number-at-requires c κs = search needs
+float-at-requires : tie.Need-float-at-requires
+float-at-requires c κs = search needs
 
-number-at-requires-2 : tie.Need-number-at-requires-2
-number-at-requires-2 c κs = search needs
+float-at-requires-2 : tie.Need-float-at-requires-2
+float-at-requires-2 c κs = search needs
 
-number-at-requires-3 : tie.Need-number-at-requires-3
-number-at-requires-3 c κs = search needs
+float-at-requires-3 : tie.Need-float-at-requires-3
+float-at-requires-3 c κs = search needs
 
-number-at-requires-4 : tie.Need-number-at-requires-4
-number-at-requires-4 c κs = search needs
+float-at-requires-4 : tie.Need-float-at-requires-4
+float-at-requires-4 c κs = search needs
 
-number-at-requires-5 : tie.Need-number-at-requires-5
-number-at-requires-5 c κs = search needs
+float-at-requires-5 : tie.Need-float-at-requires-5
+float-at-requires-5 c κs = search needs
 
-number-at-requires-6 : tie.Need-number-at-requires-6
-number-at-requires-6 c κs = search needs
+float-at-requires-6 : tie.Need-float-at-requires-6
+float-at-requires-6 c κs = search needs
 
-number-at-requires-7 : tie.Need-number-at-requires-7
-number-at-requires-7 c κs = search needs
+float-at-requires-7 : tie.Need-float-at-requires-7
+float-at-requires-7 c κs = search needs
 
-number-at-requires-8 : tie.Need-number-at-requires-8
-number-at-requires-8 c κs = search needs
+float-at-requires-8 : tie.Need-float-at-requires-8
+float-at-requires-8 c κs = search needs
 
-number-at-requires-9 : tie.Need-number-at-requires-9
-number-at-requires-9 c κs = search needs
+float-at-requires-9 : tie.Need-float-at-requires-9
+float-at-requires-9 c κs = search needs
 
-number-at-requires-10 : tie.Need-number-at-requires-10
-number-at-requires-10 c κs = search needs
+float-at-requires-10 : tie.Need-float-at-requires-10
+float-at-requires-10 c κs = search needs
 
-number-at-requires-11 : tie.Need-number-at-requires-11
-number-at-requires-11 c κs = search needs
+float-at-requires-11 : tie.Need-float-at-requires-11
+float-at-requires-11 c κs = search needs
 
 returns : tie.Need-returns
 unfolding settingsOf
-returns c = cc
+returns c = rw (c .float-at11 .ensures, c .before .float-at10 .ensures, c .before .before .float-at9 .ensures, c .before .before .before .float-at8 .ensures, c .before .before .before .before .float-at7 .ensures, c .before .before .before .before .before .float-at6 .ensures, c .before .before .before .before .before .before .float-at5 .ensures, c .before .before .before .before .before .before .before .float-at4 .ensures, c .before .before .before .before .before .before .before .before .float-at3 .ensures, c .before .before .before .before .before .before .before .before .before .float-at2 .ensures, c .before .before .before .before .before .before .before .before .before .before .float-at .ensures)
 
 pub settings-of-spec : {M : Type 1} → statement M
 settings-of-spec =
     tie.close
     (tie.spec
-    number-at-requires
-    number-at-requires-2
-    number-at-requires-3
-    number-at-requires-4
-    number-at-requires-5
-    number-at-requires-6
-    number-at-requires-7
-    number-at-requires-8
-    number-at-requires-9
-    number-at-requires-10
-    number-at-requires-11
+    float-at-requires
+    float-at-requires-2
+    float-at-requires-3
+    float-at-requires-4
+    float-at-requires-5
+    float-at-requires-6
+    float-at-requires-7
+    float-at-requires-8
+    float-at-requires-9
+    float-at-requires-10
+    float-at-requires-11
     returns)

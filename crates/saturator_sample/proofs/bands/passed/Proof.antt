@@ -15,7 +15,7 @@ blocked-requires c κs = search needs
 
 returns : tie.Need-returns
 unfolding passed
-returns c = cc
+returns c = rw (c .blocked .ensures, c .before .saturated .ensures, c .before .before .followed .ensures)
 
 pub passed-spec : {M : Type 1} → statement M
 passed-spec = tie.close (tie.spec followed-requires saturated-requires blocked-requires returns)

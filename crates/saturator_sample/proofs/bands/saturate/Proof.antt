@@ -14,7 +14,7 @@ size32-requires c κs = search needs
 
 returns : tie.Need-returns
 unfolding saturate f32 ofBits
-returns c = cc
+returns c = rw (c .size32 .ensures, c .before .fma32 .ensures)
 
 pub saturate-spec : {M : Type 1} → statement M
 saturate-spec = tie.close (tie.spec fma32-requires size32-requires returns)

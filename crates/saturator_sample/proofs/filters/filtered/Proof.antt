@@ -12,7 +12,7 @@ half-requires-2 c κs = search needs
 
 returns : tie.Need-returns
 unfolding filtered
-returns c = cc
+returns c = rw (c .half2 .ensures, c .before .half .ensures)
 
 pub filtered-spec : {M : Type 1} → statement M
 filtered-spec = tie.close (tie.spec half-requires half-requires-2 returns)

@@ -21,7 +21,7 @@ settled32-requires-4 c κs = search needs
 
 returns : tie.Need-returns
 unfolding half
-returns c = cc
+returns c = rw (c .settled324 .ensures, c .before .settled323 .ensures, c .before .before .output .ensures, c .before .before .before .settled322 .ensures, c .before .before .before .before .settled32 .ensures)
 
 pub half-spec : {M : Type 1} → statement M
 half-spec =

@@ -18,7 +18,7 @@ fma32-requires-4 c κs = search needs
 
 returns : tie.Need-returns
 unfolding output
-returns c = cc
+returns c = rw (c .fma324 .ensures, c .before .fma323 .ensures, c .before .before .before .before .fma322 .ensures, c .before .before .before .before .before .fma32 .ensures)
 
 pub output-spec : {M : Type 1} → statement M
 output-spec =

@@ -39,7 +39,7 @@ both-requires-5 c κs = search needs
 
 returns : tie.Need-returns
 unfolding drivesAndLevels
-returns c = cc
+returns c = rw (c .both5 .ensures, c .before .both4 .ensures, c .before .before .is-level3 .ensures, c .before .before .before .both3 .ensures, c .before .before .before .before .is-drive3 .ensures, c .before .before .before .before .before .both2 .ensures, c .before .before .before .before .before .before .is-level2 .ensures, c .before .before .before .before .before .before .before .is-level .ensures, c .before .before .before .before .before .before .before .before .both .ensures, c .before .before .before .before .before .before .before .before .before .is-drive2 .ensures, c .before .before .before .before .before .before .before .before .before .before .is-drive .ensures)
 
 pub drives-and-levels-spec : {M : Type 1} → statement M
 drives-and-levels-spec =

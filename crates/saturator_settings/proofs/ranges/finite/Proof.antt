@@ -15,7 +15,7 @@ both-requires c κs = search needs
 
 returns : tie.Need-returns
 unfolding finiteAll
-returns c = cc
+returns c = rw (c .both .ensures, c .before .finite-numbers2 .ensures, c .before .before .finite-numbers .ensures)
 
 pub finite-spec : {M : Type 1} → statement M
 finite-spec =

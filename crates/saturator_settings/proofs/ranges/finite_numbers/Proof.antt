@@ -33,7 +33,7 @@ both-requires-4 c κs = search needs
 
 returns : tie.Need-returns
 unfolding finiteNumbers
-returns c = cc
+returns c = rw (c .both4 .ensures, c .before .both3 .ensures, c .before .before .finite325 .ensures, c .before .before .before .finite324 .ensures, c .before .before .before .before .both2 .ensures, c .before .before .before .before .before .finite323 .ensures, c .before .before .before .before .before .before .both .ensures, c .before .before .before .before .before .before .before .finite322 .ensures, c .before .before .before .before .before .before .before .before .finite32 .ensures)
 
 pub finite-numbers-spec : {M : Type 1} → statement M
 finite-numbers-spec =

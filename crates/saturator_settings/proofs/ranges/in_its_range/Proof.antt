@@ -56,27 +56,27 @@ in-range-requires-2 c κs = search needs
 
 returns : tie.Need-returns
 unfolding inItsRange
-returns c = cc
+returns c = rw (c .is-drive .ensures, c .before .before .t .given .1)
 
 returns-2 : tie.Need-returns-2
 unfolding inItsRange
-returns-2 c = cc
+returns-2 c = rw (c .is-drive2 .ensures, c .before .before .t2 .given .1)
 
 returns-3 : tie.Need-returns-3
 unfolding inItsRange
-returns-3 c = cc
+returns-3 c = rw (c .is-drive3 .ensures, c .before .before .t3 .given .1)
 
 returns-4 : tie.Need-returns-4
 unfolding inItsRange
-returns-4 c = cc
+returns-4 c = rw (c .is-level .ensures, c .before .before .t4 .given .1)
 
 returns-5 : tie.Need-returns-5
 unfolding inItsRange
-returns-5 c = cc
+returns-5 c = rw (c .is-level2 .ensures, c .before .before .t5 .given .1)
 
 returns-6 : tie.Need-returns-6
 unfolding inItsRange
-returns-6 c = cc
+returns-6 c = rw (c .is-level3 .ensures, c .before .before .t6 .given .1)
 
 returns-7 : tie.Need-returns-7
 unfolding inItsRange f32 ofBits

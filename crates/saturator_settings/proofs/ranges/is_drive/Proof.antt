@@ -10,7 +10,7 @@ in-range-requires c κs = search needs
 
 returns : tie.Need-returns
 unfolding isDrive ofBits
-returns c = cc
+returns c = rw (c .in-range .ensures)
 
 pub is-drive-spec : {M : Type 1} → statement M
 is-drive-spec = tie.close (tie.spec in-range-requires returns)

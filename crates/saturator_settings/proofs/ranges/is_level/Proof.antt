@@ -11,7 +11,7 @@ in-range-requires c κs = search needs
 
 returns : tie.Need-returns
 unfolding isLevel f32 ofBits
-returns c = cc
+returns c = rw (c .in-range .ensures)
 
 pub is-level-spec : {M : Type 1} → statement M
 is-level-spec = tie.close (tie.spec in-range-requires returns)

@@ -33,7 +33,7 @@ both-requires-4 c κs = search needs
 
 returns : tie.Need-returns
 unfolding lent
-returns c = cc
+returns c = rw (c .both4 .ensures, c .before .both3 .ensures, c .before .before .finite2 .ensures, c .before .before .before .finite .ensures, c .before .before .before .before .both2 .ensures, c .before .before .before .before .before .is-smoothing3 .ensures, c .before .before .before .before .before .before .both .ensures, c .before .before .before .before .before .before .before .is-smoothing2 .ensures, c .before .before .before .before .before .before .before .before .is-smoothing .ensures)
 
 pub lent-spec : {M : Type 1} → statement M
 lent-spec =

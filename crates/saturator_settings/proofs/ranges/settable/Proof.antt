@@ -33,7 +33,7 @@ both-requires-4 c κs = search needs
 
 returns : tie.Need-returns
 unfolding settable
-returns c = cc
+returns c = rw (c .both4 .ensures, c .before .is-rate .ensures, c .before .before .both3 .ensures, c .before .before .before .both2 .ensures, c .before .before .before .before .drives-and-levels .ensures, c .before .before .before .before .before .lent .ensures, c .before .before .before .before .before .before .both .ensures, c .before .before .before .before .before .before .before .in-its-range2 .ensures, c .before .before .before .before .before .before .before .before .in-its-range .ensures)
 
 pub settable-spec : {M : Type 1} → statement M
 settable-spec =

@@ -36,27 +36,27 @@ finite-requires-2 c κs = search needs
 
 returns : tie.Need-returns
 unfolding worked
-returns c = cc
+returns c = rw (c .enum-told .given .1)
 
 returns-2 : tie.Need-returns-2
 unfolding worked
-returns-2 c = cc
+returns-2 c = rw (c .enum-told2 .given .1)
 
 returns-3 : tie.Need-returns-3
 unfolding worked
-returns-3 c = cc
+returns-3 c = rw (c .enum-told3 .given .1)
 
 returns-4 : tie.Need-returns-4
 unfolding worked
-returns-4 c = cc
+returns-4 c = rw (c .enum-told4 .given .1)
 
 returns-5 : tie.Need-returns-5
 unfolding worked
-returns-5 c = cc
+returns-5 c = rw (c .enum-told5 .given .1)
 
 returns-6 : tie.Need-returns-6
 unfolding worked
-returns-6 c = cc
+returns-6 c = rw (c .enum-told6 .given .1)
 
 returns-7 : tie.Need-returns-7
 unfolding worked

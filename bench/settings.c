@@ -1,0 +1,89 @@
+/* The settings that the rows run with, and their worked numbers, at 48,000 Hz: as the Rust works them
+ * out, in double. */
+#include "settings.h"
+
+#include <math.h>
+
+static const double pi = 3.14159265358979323846;
+
+/* The smoothing number of a time in milliseconds. */
+float smoothing(double ms)
+{
+    return (float)exp(-1 / (RATE * 0.001 * ms));
+}
+
+/* A DC blocker's number for a corner in Hz. */
+float blocking(double corner)
+{
+    return (float)exp(-2 * pi * corner / RATE);
+}
+
+hoofglaze_gate a_gate(void)
+{
+    hoofglaze_gate g = hoofglaze_gate_make(RATE, smoothing(0.1), smoothing(10)).gate;
+    g.settings.threshold.decibels = -40;
+    g.settings.factor.factor = 0.01f;
+    g.settings.attack = 1;
+    g.settings.opening = smoothing(1);
+    g.settings.release = 10;
+    g.settings.closing = smoothing(10);
+    g.settings.hold = 10;
+    g.registers.state = 1;
+    return g;
+}
+
+/* ---- equaliser */
+
+static hoofglaze_eq_numbers peaking(double centre, double decibels)
+{
+    double w = 2 * pi * centre / RATE, size = pow(10, decibels / 40);
+    double alpha = sin(w) * sinh(0.69314718055994531 / 2 * (10.0 / 16) * w / sin(w)), a0 = 1 + alpha / size;
+    return (hoofglaze_eq_numbers){(1 + alpha * size) / a0, -2 * cos(w) / a0, (1 - alpha * size) / a0,
+                                  -2 * cos(w) / a0, (1 - alpha / size) / a0};
+}
+
+hoofglaze_eq an_equaliser(void)
+{
+    static const double centres[] = {25,   40,   63,   100,  160,  250,   400,   630,
+                                     1000, 1600, 2500, 4000, 6300, 10000, 16000, 20000};
+    hoofglaze_eq e = hoofglaze_eq_make(RATE).equaliser;
+    for (int i = 0; i < 16; i++) {
+        float decibels = i % 2 ? -(float)i / 2 : (float)(1 + i) / 2;
+        e.settings.bands[i].value.decibels = decibels;
+        e.settings.bands[i].numbers = peaking(centres[i], decibels);
+    }
+    return e;
+}
+
+/* ---- tone stack */
+
+hoofglaze_tone a_tone_stack(void)
+{
+    hoofglaze_tone t = hoofglaze_tone_make_british(RATE).tone;
+    t.settings.bass = 1.5f;
+    t.settings.mid = 0.75f;
+    t.settings.treble = 1.25f;
+    t.settings.presence = 1.5f;
+    t.settings.factor.factor = (float)pow(10, (1.5 - 1) * 6 / 20);
+    return t;
+}
+
+/* ---- saturator */
+
+/* A crossover's low-pass and high-pass. */
+static hoofglaze_saturator_crossover crossover(double corner)
+{
+    double w = 2 * pi * corner / RATE, alpha = sin(w) / sqrt(2), a0 = 1 + alpha;
+    double low = (1 - cos(w)) / 2 / a0, high = (1 + cos(w)) / 2 / a0, a1 = -2 * cos(w) / a0;
+    double a2 = (1 - alpha) / a0;
+    return (hoofglaze_saturator_crossover){{low, 2 * low, low, a1, a2}, {high, -2 * high, high, a1, a2}};
+}
+
+hoofglaze_saturator a_saturator(void)
+{
+    hoofglaze_saturator s = hoofglaze_saturator_make(RATE, crossover(200), crossover(2000), smoothing(1),
+                                                     smoothing(50), blocking(15)).saturator;
+    s.settings.drives = (hoofglaze_saturator_bands){0.5f, 0.75f, 0.25f};
+    s.settings.levels = (hoofglaze_saturator_bands){1.25f, 1, 0.75f};
+    return s;
+}

@@ -1,0 +1,213 @@
+/* stages WHOSE ROW: runs one row's samples, for an instruction counter. stages agree: whether the
+ * library and the same steps in C give the same bits. stages fused: whether this processor has a fused
+ * multiply-add. */
+#include "stages.h"
+
+#include <stdio.h>
+#include <string.h>
+
+#include "settings.h"
+
+enum { SAMPLES = 4096, ROUNDS = 4 };
+
+static float input[SAMPLES], output[ROUNDS][SAMPLES];
+static hoofglaze_answer told[ROUNDS];
+
+/* ---- samples */
+
+/* From -1 up to 1. */
+static float drawn(void)
+{
+    static uint64_t state = 0x9e3779b97f4a7c15;
+    state ^= state << 13;
+    state ^= state >> 7;
+    state ^= state << 17;
+    return (float)(state >> 40) * 0x1p-23f - 1;
+}
+
+/* A loud stretch, then a low one. */
+static void words(void)
+{
+    for (int i = 0; i < SAMPLES; i++)
+        input[i] = drawn() * (i < SAMPLES / 2 ? 0.5f : 0.002f);
+}
+
+static void silence(void)
+{
+    memset(input, 0, sizeof input);
+}
+
+/* ---- what each row runs */
+
+#define STEPS(STATE, STEP, NEXT)                                  \
+    for (int round = 0; round < ROUNDS; round++)                  \
+        for (int i = 0; i < SAMPLES; i++) {                       \
+            __typeof__(STEP(STATE, 0)) a = STEP(STATE, input[i]); \
+            STATE = a.NEXT;                                       \
+            output[round][i] = a.answer.value;                    \
+        }
+
+#define BLOCKS(STATE, BLOCK, NEXT)                                \
+    for (int round = 0; round < ROUNDS; round++) {                \
+        __typeof__(BLOCK(STATE, 0, 0, 0, 0)) a =                  \
+            BLOCK(STATE, input, SAMPLES, output[round], SAMPLES); \
+        STATE = a.NEXT;                                           \
+        told[round] = a.answer;                                   \
+    }
+
+static void follower(const struct offer *o)
+{
+    hoofglaze_follower f = hoofglaze_follower_make(smoothing(0.1), smoothing(10)).follower;
+    STEPS(f, o->follower_step, follower)
+}
+
+static void blocker(const struct offer *o)
+{
+    hoofglaze_blocker b = hoofglaze_blocker_make(blocking(15)).blocker;
+    STEPS(b, o->blocker_step, blocker)
+}
+
+static void gate(const struct offer *o)
+{
+    hoofglaze_gate g = a_gate();
+    BLOCKS(g, o->gate_block, gate)
+}
+
+static void clip_hard(const struct offer *o)
+{
+    for (int round = 0; round < ROUNDS; round++)
+        told[round] = o->clip_hard(4, input, SAMPLES, output[round], SAMPLES);
+}
+
+static void clip_triode(const struct offer *o)
+{
+    for (int round = 0; round < ROUNDS; round++)
+        told[round] = o->clip_triode(4, input, SAMPLES, output[round], SAMPLES);
+}
+
+static void eq_flat(const struct offer *o)
+{
+    hoofglaze_eq e = hoofglaze_eq_make(RATE).equaliser;
+    BLOCKS(e, o->eq_block, equaliser)
+}
+
+static void eq(const struct offer *o)
+{
+    hoofglaze_eq e = an_equaliser();
+    BLOCKS(e, o->eq_block, equaliser)
+}
+
+static void tone(const struct offer *o)
+{
+    hoofglaze_tone t = a_tone_stack();
+    BLOCKS(t, o->tone_block, tone)
+}
+
+static void saturator(const struct offer *o)
+{
+    hoofglaze_saturator s = a_saturator();
+    BLOCKS(s, o->saturator_block, saturator)
+}
+
+static const struct row {
+    const char *name;
+    void (*fill)(void);
+    void (*run)(const struct offer *o);
+} rows[] = {
+    {"follower", words, follower},
+    {"blocker", words, blocker},
+    {"gate", words, gate},
+    {"gate-silence", silence, gate},
+    {"hard", words, clip_hard},
+    {"triode", words, clip_triode},
+    {"eq", words, eq},
+    {"eq-flat", words, eq_flat},
+    {"tone", words, tone},
+    {"saturator", words, saturator},
+};
+
+enum { ROWS = sizeof rows / sizeof *rows };
+
+/* ---- who offers the steps */
+
+/* A function of each signature that does nothing but return the place of its answer. */
+__asm__(".text\n.globl nothing\nnothing:\n\tmovq %rdi, %rax\n\tret\n");
+void nothing(void);
+
+static struct offer offer_of_nothing(void)
+{
+    void (*all[sizeof(struct offer) / sizeof(void (*)(void))])(void);
+    struct offer o;
+    for (unsigned i = 0; i < sizeof all / sizeof *all; i++)
+        all[i] = nothing;
+    memcpy(&o, all, sizeof o);
+    return o;
+}
+
+static const struct offer library = {
+    hoofglaze_follower_step, hoofglaze_blocker_step, hoofglaze_gate_block, hoofglaze_clip_hard,
+    hoofglaze_clip_triode,   hoofglaze_eq_block,     hoofglaze_tone_block, hoofglaze_saturator_block,
+};
+
+static int fused(void)
+{
+    unsigned a = 1, b, c, d;
+    __asm__("cpuid" : "+a"(a), "=b"(b), "=c"(c), "=d"(d));
+    return (c >> 12 & c >> 27 & 1) == 1;
+}
+
+/* ---- agreement */
+
+/* How many samples and answers of a row differ from the library's. */
+static int apart(const struct row *row, const struct offer *o)
+{
+    static float expected[ROUNDS][SAMPLES];
+    hoofglaze_answer said[ROUNDS];
+    int differ = 0;
+    memset(told, 0, sizeof told);
+    row->run(&library);
+    memcpy(expected, output, sizeof expected);
+    memcpy(said, told, sizeof said);
+    memset(output, 0xff, sizeof output);
+    row->run(o);
+    for (int i = 0; i < ROUNDS; i++) {
+        differ += said[i].number != 0 || told[i].number != 0 || told[i].count != said[i].count;
+        for (int j = 0; j < SAMPLES; j++)
+            differ += memcmp(&output[i][j], &expected[i][j], sizeof(float)) != 0;
+    }
+    return differ;
+}
+
+static int agree(void)
+{
+    int differ = 0;
+    for (const struct row *row = rows; row < rows + ROWS; row++) {
+        row->fill();
+        int more = apart(row, &soft) + (fused() ? apart(row, &hardware) : 0);
+        if (more)
+            printf("%s: %d differ\n", row->name, more);
+        differ += more;
+    }
+    printf("stages: %d samples on which the library and the steps in C differ%s\n", differ,
+           fused() ? "" : " (hardware fma: this processor has none)");
+    return differ != 0;
+}
+
+int main(int count, char **words)
+{
+    const struct offer none = offer_of_nothing();
+    const char *const whose[] = {"nothing", "hoofglaze", "soft", "hardware"};
+    const struct offer *const offers[] = {&none, &library, &soft, &hardware};
+    if (count == 2 && strcmp(words[1], "agree") == 0)
+        return agree();
+    if (count == 2 && strcmp(words[1], "fused") == 0)
+        return !fused();
+    for (int i = 0; count == 3 && i < 4; i++)
+        for (const struct row *row = rows; row < rows + ROWS; row++)
+            if (strcmp(words[1], whose[i]) == 0 && strcmp(words[2], row->name) == 0) {
+                row->fill();
+                row->run(offers[i]);
+                return 0;
+            }
+    return 2;
+}

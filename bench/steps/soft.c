@@ -1,0 +1,7 @@
+/* The stages' steps in C, with the library's fused multiply-add rendered in C. */
+#include "../rendering.h"
+
+#define fma32 rendered_fma32
+#define fma64 rendered_fma64
+#define OFFER soft
+#include "steps.h"

@@ -1,0 +1,19 @@
+-- `clipper_sample::triode::coeff_a` meets its contract. Assumes nothing.
+use lib.Ieee.{ofBits, neg}
+use Rattle.clipper_sample.specs.Process.{coeffA}
+use borrow.Author.Needs.{needs}
+use Rattle.clipper_sample.proofs.triode.coeff_a.Statement.{statement}
+use Rattle.clipper_sample.proofs.triode.coeff_a.Tie as tie
+
+fma32-requires : tie.Need-fma32-requires
+fma32-requires c κs = search needs
+
+fma32-requires-2 : tie.Need-fma32-requires-2
+fma32-requires-2 c κs = search needs
+
+returns : tie.Need-returns
+unfolding coeffA ofBits neg
+returns c = rw (c .before .fma32 .ensures, c .fma322 .ensures)
+
+pub coeff-a-spec : {M : Type 1} → statement M
+coeff-a-spec = tie.close (tie.spec fma32-requires fma32-requires-2 returns)

@@ -1,0 +1,2 @@
+-- Document 01's proved table holds.
+pub mod Table

@@ -1,0 +1,113 @@
+/* Checks that the library lays a state's numbers and an answer's where the header does: on raw bytes that
+ * calls give, and that they are handed back. */
+#include "checks.h"
+#include "hoofglaze.h"
+
+_Static_assert(sizeof(hoofglaze_answer) == 24, "an answer");
+_Static_assert(sizeof(hoofglaze_follower) == 12 && sizeof(hoofglaze_follower_answered) == 40, "a follower");
+_Static_assert(sizeof(hoofglaze_blocker) == 12 && sizeof(hoofglaze_blocker_answered) == 40, "a blocker");
+_Static_assert(sizeof(hoofglaze_decibels) == 4 && sizeof(hoofglaze_factor) == 4, "a float each");
+_Static_assert(sizeof(hoofglaze_gate_settings) == 44 && sizeof(hoofglaze_gate_registers) == 16, "a gate");
+_Static_assert(sizeof(hoofglaze_gate) == 64 && sizeof(hoofglaze_gate_answered) == 88, "a gate answered");
+
+static uint32_t word_at(const void *from, size_t place)
+{
+    uint32_t n;
+    memcpy(&n, (const uint8_t *)from + place, sizeof n);
+    return n;
+}
+
+static uint64_t long_at(const void *from, size_t place)
+{
+    uint64_t n;
+    memcpy(&n, (const uint8_t *)from + place, sizeof n);
+    return n;
+}
+
+/* Floats that lie one behind the other. */
+static void check_floats(const char *call, const void *from, size_t place, const float *said, int count)
+{
+    for (int i = 0; i < count; i++)
+        check(call, word_at(from, place + 4 * i), bytes32(said[i]), place + 4 * i, 0, 0);
+}
+
+static void check_answer_at(const char *call, const void *from, size_t place, uint32_t number, float value,
+                            uint64_t at, uint64_t count)
+{
+    check(call, word_at(from, place), number, place, 0, 0);
+    check(call, word_at(from, place + 4), bytes32(value), place + 4, 0, 0);
+    check(call, long_at(from, place + 8), at, place + 8, 0, 0);
+    check(call, long_at(from, place + 16), count, place + 16, 0, 0);
+}
+
+static void lone(void)
+{
+    hoofglaze_follower f = hoofglaze_follower_make(0.5f, 0.25f).follower;
+    hoofglaze_follower_answered a = hoofglaze_follower_step(f, 2);
+    check_floats("follower_step", &a, 0, (float[]){0.5f, 0.25f, 1}, 3);
+    check_answer_at("follower_step", &a, 16, 0, 1, 0, 0);
+    hoofglaze_blocker b = hoofglaze_blocker_step(hoofglaze_blocker_make(0.5f).blocker, 3).blocker;
+    hoofglaze_blocker_answered c = hoofglaze_blocker_step(b, 4);
+    check_floats("blocker_step", &c, 0, (float[]){0.5f, 4, 2.5f}, 3);
+    check_answer_at("blocker_step", &c, 16, 0, 2.5f, 0, 0);
+}
+
+/* Every number of this gate is another one. */
+static const float settings[] = {44100, -12, 0.125f, 3, 7, 0.75f, 70, 0.625f, 20, 0.5f, 0.25f};
+
+static hoofglaze_gate set_gate(void)
+{
+    hoofglaze_gate g = hoofglaze_gate_make(settings[0], settings[9], settings[10]).gate;
+    const hoofglaze_decibels threshold = {settings[1]};
+    const hoofglaze_factor factor = {settings[2]};
+    g = hoofglaze_gate_set_threshold(g, threshold, factor).gate;
+    g = hoofglaze_gate_set_ratio(g, settings[3]).gate;
+    g = hoofglaze_gate_set_attack(g, settings[4], settings[5]).gate;
+    g = hoofglaze_gate_set_release(g, settings[6], settings[7]).gate;
+    return hoofglaze_gate_set_hold(g, settings[8]).gate;
+}
+
+static void gate_given(void)
+{
+    const float input[] = {0.5f, 0.25f, 1, 65};
+    float output[4];
+    hoofglaze_gate_answered a = hoofglaze_gate_block(set_gate(), input, 2, output, 2);
+    check_floats("gate_block", &a, 0, settings, 11);
+    check_floats("gate_block", &a, 48, (float[]){0.25f, 0.4375f}, 2);
+    check("gate_block", long_at(&a, 56), 882, 56, 0, 0);
+    check_answer_at("gate_block", &a, 64, 0, 0, 0, 2);
+    a = hoofglaze_gate_block(a.gate, input, 4, output, 4);
+    check_answer_at("gate_block", &a, 64, 6, 0, 3, 0);
+    hoofglaze_answer r = hoofglaze_gate_read(a.gate, (const uint8_t *)"release", 7);
+    check_answer_at("gate_read", &r, 0, 0, 70, 0, 0);
+}
+
+/* A gate from bytes that were never one: a block of it steps from these numbers. */
+static void gate_handed_back(void)
+{
+    uint8_t bytes[64];
+    const float level = 2, state = 0.5f, input = 0;
+    const uint64_t counter = 7;
+    float output;
+    hoofglaze_gate g;
+    memset(bytes, 0xaa, sizeof bytes);
+    memcpy(bytes, settings, sizeof settings);
+    memcpy(bytes + 8, &(float){1}, sizeof(float));
+    memcpy(bytes + 48, &level, sizeof level);
+    memcpy(bytes + 52, &state, sizeof state);
+    memcpy(bytes + 56, &counter, sizeof counter);
+    memcpy(&g, bytes, sizeof g);
+    hoofglaze_answer a = hoofglaze_gate_block_in_place(&g, &input, 1, &output, 1);
+    check_answer_at("gate_block_in_place", &a, 0, 0, 0, 0, 1);
+    check_floats("gate_block_in_place", &g, 48, (float[]){0.5f, 0.625f}, 2);
+    check("gate_block_in_place", long_at(&g, 56), 6, 56, 0, 0);
+    check_floats("gate_block_in_place", &g, 12, settings + 3, 8);
+}
+
+void layout_checks(void)
+{
+    group("layout: numbers where the header has them");
+    lone();
+    gate_given();
+    gate_handed_back();
+}

@@ -1,0 +1,164 @@
+/* The mission's own case: a quiet "not" before a loud "comfortable", through a gate with settings that a
+ * box may have. Prints which spans the gate meant to pass, and holds them to document 01's words. */
+#include <math.h>
+#include <stdio.h>
+
+#include "checks.h"
+#include "hoofglaze.h"
+
+enum { RATE = 48000, MOST = 8 * RATE, SPANS = 8, BLOCK = 4096 };
+
+/* Where "not" ends and "comfortable" begins: the recording is silent in between. */
+enum { NOT = RATE * 25 / 100, COMFORTABLE = RATE * 29 / 100 };
+
+static uint8_t bytes[2 * MOST];
+static float recording[MOST], level[MOST];
+static int samples;
+
+/* Signed 16-bit little-endian samples at 48,000 Hz, each n/32768. */
+static void read_recording(const char *path)
+{
+    FILE *file = fopen(path, "rb");
+    check("the recording opens", file != 0, 1, 0, 0, 0);
+    if (!file)
+        return;
+    samples = (int)(fread(bytes, 1, sizeof bytes, file) / 2);
+    fclose(file);
+    for (int i = 0; i < samples; i++)
+        recording[i] = (float)(int16_t)(bytes[2 * i] | bytes[2 * i + 1] << 8) / 32768;
+}
+
+/* ---- settings with their worked numbers */
+
+static float smoothing(double ms)
+{
+    return (float)exp(-1 / (RATE * 0.001 * ms));
+}
+
+static hoofglaze_gate done(hoofglaze_gate_answered a)
+{
+    check("a setting is done", a.answer.number, 0, 0, 0, 0);
+    return a.gate;
+}
+
+/* Ratio 10, attack 1 ms, release 100 ms, hold 50 ms; a follower of 0.1 and 10 ms. */
+static hoofglaze_gate gate_at(float decibels)
+{
+    hoofglaze_factor factor = {(float)pow(10, decibels / 20)};
+    hoofglaze_gate g = done(hoofglaze_gate_make(RATE, smoothing(0.1), smoothing(10)));
+    g = done(hoofglaze_gate_set_threshold(g, (hoofglaze_decibels){decibels}, factor));
+    g = done(hoofglaze_gate_set_ratio(g, 10));
+    g = done(hoofglaze_gate_set_attack(g, 1, smoothing(1)));
+    g = done(hoofglaze_gate_set_release(g, 100, smoothing(100)));
+    return done(hoofglaze_gate_set_hold(g, 50));
+}
+
+/* ---- spans: where the gate aimed open */
+
+struct span {
+    int from, to; /* the first sample, and the first one after */
+};
+
+struct passage {
+    struct span spans[SPANS];
+    int count, open, open_in_not;
+};
+
+static void add(struct passage *p, int i)
+{
+    p->open++;
+    p->open_in_not += i < NOT;
+    if (p->count > 0 && p->spans[p->count - 1].to == i)
+        p->spans[p->count - 1].to++;
+    else if (p->count < SPANS)
+        p->spans[p->count++] = (struct span){i, i + 1};
+}
+
+/* As the library counts, a sample a block; the level after each is kept. */
+static struct passage passed(hoofglaze_gate g)
+{
+    struct passage p = {.count = 0};
+    float output;
+    for (int i = 0; i < samples; i++) {
+        hoofglaze_answer a = hoofglaze_gate_block_in_place(&g, &recording[i], 1, &output, 1);
+        check("a block of one sample is done", a.number, 0, i, 0, 0);
+        level[i] = g.registers.level;
+        if (a.count == 1)
+            add(&p, i);
+    }
+    return p;
+}
+
+/* As document 01 says: the level after each sample, loud above the threshold's factor; open if the latest
+ * loud sample is this one or fewer than H back. */
+static struct passage expected(const hoofglaze_gate_settings *s)
+{
+    struct passage p = {.count = 0};
+    int latest = -1, hold = (int)((s->hold * 0.001f) * s->rate);
+    float now = 0;
+    for (int i = 0; i < samples; i++) {
+        float r = fabsf(recording[i]), c = r > now ? s->rising : s->falling;
+        now = fmaf(c, now, (1 - c) * r);
+        check("level", bytes32(level[i]), bytes32(now), i, 0, 0);
+        if (now > s->factor.factor)
+            latest = i;
+        if (latest == i || (latest >= 0 && i - latest < hold))
+            add(&p, i);
+    }
+    return p;
+}
+
+/* The open count of whole blocks. */
+static int open_count(hoofglaze_gate g)
+{
+    static float output[BLOCK];
+    size_t open = 0;
+    for (int i = 0; i < samples; i += BLOCK) {
+        size_t n = samples - i < BLOCK ? samples - i : BLOCK;
+        open += hoofglaze_gate_block_in_place(&g, recording + i, n, output, n).count;
+    }
+    return (int)open;
+}
+
+static struct passage told(float decibels)
+{
+    hoofglaze_gate g = gate_at(decibels);
+    struct passage p = passed(g), said = expected(&g.settings);
+    check("spans", p.count, said.count, 0, 0, 0);
+    check("samples aimed open", p.open, said.open, 0, 0, 0);
+    check("open count of blocks", open_count(g), said.open, 0, 0, 0);
+    printf("  threshold %.0f dB (factor %.4f): meant to pass", decibels, g.settings.factor.factor);
+    for (int i = 0; i < p.count; i++) {
+        struct span s = p.spans[i];
+        check("a span's first sample", s.from, said.spans[i].from, i, 0, 0);
+        check("a span's end", s.to, said.spans[i].to, i, 0, 0);
+        printf("%s %.1f to %.1f ms", i ? "," : "", s.from * 1000.0 / RATE, s.to * 1000.0 / RATE);
+    }
+    printf(": %d of %d samples, %d of them of \"not\"\n", p.open, samples, p.open_in_not);
+    return p;
+}
+
+static float loudest(const float *x, int from, int to)
+{
+    float most = 0;
+    for (int i = from; i < to; i++)
+        most = fabsf(x[i]) > most ? fabsf(x[i]) : most;
+    return most;
+}
+
+void mission_checks(const char *path)
+{
+    group("mission: a quiet \"not\" before a loud \"comfortable\"");
+    read_recording(path);
+    struct passage heard = told(-40), missed = told(-12);
+    float quiet = loudest(level, 0, NOT), loud = loudest(level, COMFORTABLE, samples);
+    check("silence between the words", bytes32(loudest(recording, NOT, COMFORTABLE)), 0, 0, 0, 0);
+    check("level of \"not\"", quiet > 0.01f && quiet < 0.25f, 1, bytes32(quiet), 0, 0);
+    check("level of \"comfortable\"", loud > 0.26f, 1, bytes32(loud), 0, 0);
+    check("all of \"not\" passes", heard.spans[0].from < RATE / 100 && heard.spans[0].to > NOT, 1, 0, 0, 0);
+    check("none of \"not\" passes", missed.open_in_not, 0, 0, 0, 0);
+    check("\"comfortable\" passes", missed.open > 0, 1, 0, 0, 0);
+    printf("  the level rises to %.1f dB in \"not\" and to %.1f dB in \"comfortable\":\n"
+           "  a threshold between them loses the whole of the first word, and not of the second\n",
+           20 * log10(quiet), 20 * log10(loud));
+}
