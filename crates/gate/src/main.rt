@@ -62,38 +62,36 @@ fn fill(buffer: &mut [u8]) -> Filled
     }
 }
 
+// Says what failed; there is no next block.
+fn failed(turn: Turn, what: &[u8]) -> Turn {
+    told::failed(what);
+    let gate = turn.gate;
+    Turn {
+        gate: gate,
+        samples: turn.samples,
+        open: turn.open,
+        next: Next::Failed,
+    }
+}
+
 // A block through the gate, and what it gives written.
 fn passed(turn: Turn, input: &[u8], output: &mut [u8], next: Next) -> Turn {
     let g = turn.gate;
-    let samples = turn.samples;
-    let open = turn.open;
     let ran = pcm_gate::pass(g, input, output);
     let gate = ran.gate;
     let answer = ran.answer;
     let Passage::Done(p) = answer else {
-        told::failed(b"gate: a block was refused\n");
-        return Turn {
-            gate: gate,
-            samples: samples,
-            open: open,
-            next: Next::Failed,
-        };
+        return failed(turn, b"gate: a block was refused\n");
     };
     let whole = output.len() / 2;
     let even = whole * 2;
     if !io::write_all(STDOUT_FILENO, &output[..even]) {
-        told::failed(b"gate: a write failed\n");
-        return Turn {
-            gate: gate,
-            samples: samples,
-            open: open,
-            next: Next::Failed,
-        };
+        return failed(turn, b"gate: a write failed\n");
     }
     Turn {
         gate: gate,
-        samples: std::num::wrapping_add_u64(samples, whole as u64),
-        open: std::num::wrapping_add_u64(open, p.count as u64),
+        samples: std::num::wrapping_add_u64(turn.samples, whole as u64),
+        open: std::num::wrapping_add_u64(turn.open, p.count as u64),
         next: next,
     }
 }

@@ -1,3 +1,4 @@
--- What a call tells, and what a refusal leaves.
+-- What a call tells, what a refusal leaves, and that 9 accepts what calls leave.
 pub mod Answers
 pub mod Refusals
+pub mod Accepted

@@ -4,7 +4,7 @@ use mathlib.Core.Path.{_≡_, refl}
 use lib.Ieee.{Float}
 use Rattle.tonestack_settings.specs.declared.Settings.{Settings}
 use Rattle.tonestack_sample.specs.Alpha.{alphasOf}
-use Rattle.tonestack_sample.specs.Step.{stepWith, nextWith, outputWith, next, output, step}
+use Rattle.tonestack_sample.specs.Step.{stepWith, next, output, step}
 use Rattle.tonestack_sample.specs.declared.Registers.{Registers}
 
 module _ (s : Settings) (m : Registers) (x : Float) where

@@ -1,2 +1,3 @@
--- The models' numbers.
+-- The models' numbers; what a clamp and a setting leave.
 pub mod Numbers
+pub mod Clamped

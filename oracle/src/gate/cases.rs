@@ -38,6 +38,7 @@ pub fn stored() -> Vec<u8> {
     while list.samples < STORED {
         list.session();
     }
+    list.at_the_level();
     list.add(Call::Unknown);
     list.bytes.extend([0; 64]);
     list.bytes.extend([3; 63]);
@@ -225,6 +226,18 @@ impl<'a> List<'a> {
             self.add(Call::Load(Gate { level, ..QUICK }));
             self.block(vec![level, -level]);
         }
+    }
+
+    /// A sample of the level's own size takes the release number, and here the attack number would give other bits.
+    fn at_the_level(&mut self) {
+        let level = f32::from_bits(0x3ad9_9ffd);
+        self.add(Call::Load(Gate {
+            rising: f32::from_bits(0x1844_8a78),
+            falling: f32::from_bits(0x3a09_f8ac),
+            level,
+            ..QUICK
+        }));
+        self.block(vec![level]);
     }
 
     /// Blocks of each length around the borders, the two lengths the same or not.
