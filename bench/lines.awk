@@ -4,7 +4,7 @@
 NF == 2 { seconds[$1] = $2; measured = 1; next }
 
 function line(name, code, definitions, proofs, edits, time) {
-    printf "%-24s%8s%13s%9s%17s%9s\n", name, code, definitions, proofs, edits, time
+    printf "%-28s%6s%13s%9s%17s%9s\n", name, code, definitions, proofs, edits, time
 }
 
 NF == 5 {

@@ -1,6 +1,7 @@
 // One band's step: its envelope, its saturation, its DC blocker.
 use crate::Band;
 use common::blocker::Blocker;
+use saturator_settings::Settings;
 ghost use mathlib.Core.Path.{_≡_};
 ghost use Rattle.saturator_sample.specs.Bands as Bands;
 
@@ -25,12 +26,12 @@ fn saturated(x: f32, drive: f32, level: f32) -> f32
 }
 
 // The band after a sample x, for any bits: the follower's and the blocker's steps write its registers.
-pub fn passed(attack: f32, release: f32, c: f32, drive: f32, b: Band, x: f32) -> Band
-    ensures { λ r. ⌜ r ≡ Bands.passed attack release c drive b x ⌝ }
+pub fn passed(s: Settings, drive: f32, b: Band, x: f32) -> Band
+    ensures { λ r. ⌜ r ≡ Bands.passed (s .attack) (s .release) (s .blocker) drive b x ⌝ }
 {
-    let level = common::follower::followed(attack, release, b.level, x);
+    let level = common::follower::followed(s.attack, s.release, b.level, x);
     let blocker = Blocker {
-        c: c,
+        c: s.blocker,
         x1: b.x1,
         y1: b.y1,
     };

@@ -72,23 +72,9 @@ pub fn step(s: Settings, m: Registers, x: f32) -> Stepped
     let lowpass = filters::filtered(at_high.lowpass, m.lowpass, low.second.y1);
     let highpass = filters::filtered(at_high.highpass, m.highpass, low.second.y1);
     let turned = lowpass.second.y1 + highpass.second.y1;
-    let lows = bands::passed(s.attack, s.release, s.blocker, s.drives.low, m.lows, turned);
-    let mids = bands::passed(
-        s.attack,
-        s.release,
-        s.blocker,
-        s.drives.mid,
-        m.mids,
-        mid.second.y1,
-    );
-    let highs = bands::passed(
-        s.attack,
-        s.release,
-        s.blocker,
-        s.drives.high,
-        m.highs,
-        high.second.y1,
-    );
+    let lows = bands::passed(s, s.drives.low, m.lows, turned);
+    let mids = bands::passed(s, s.drives.mid, m.mids, mid.second.y1);
+    let highs = bands::passed(s, s.drives.high, m.highs, high.second.y1);
     let output = mix(s.levels, lows.y1, mids.y1, highs.y1);
     Stepped {
         registers: Registers {
