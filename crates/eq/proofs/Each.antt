@@ -1,8 +1,8 @@
 -- A block without a state is each sample by itself, and each sample that a stage gives may be seen through a function.
 -- Assumes nothing.
+use Prim.Native.Nat.{ℕ}
 use mathlib.Core.Path.{_≡_, refl, ap}
 use mathlib.Core.List.{List, [], _∷_, map}
-use Prim.Native.Nat.{ℕ}
 use Rattle.fold.specs.Fold.{outAfter}
 
 -- no state: a number that stays as it was

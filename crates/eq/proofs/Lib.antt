@@ -5,3 +5,4 @@ pub mod OneBand
 pub mod Answers
 pub mod Refusals
 pub mod Kept
+pub mod Accepted

@@ -1,9 +1,9 @@
 -- A block widened, run through the bands over a buffer, and narrowed is its samples one after the other.
 -- Assumes nothing.
-use mathlib.Core.Path.{_≡_, refl, sym, _∙_, ap}
-use mathlib.Core.List.{List, map}
 use Prim.Native.Nat.{ℕ, _≤_}
 use native.Mathlib.Omega.{arith}
+use mathlib.Core.Path.{_≡_, _∙_, ap}
+use mathlib.Core.List.{List, map}
 use lib.ListN.{length, take, length-take}
 use lib.Ieee.{Float}
 use Rattle.rounding.specs.Casts.{narrow}

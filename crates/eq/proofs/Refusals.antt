@@ -1,9 +1,9 @@
 -- A refused setting, reading, reset or block leaves the equaliser as it was, and a refused block its output too; a refused making leaves an equaliser that 9 refuses in every later call.
 -- Assumes nothing.
+use Prim.Native.Nat.{ℕ}
 use mathlib.Core.Path.{_≡_, refl}
 use mathlib.Core.Bool.{Bool, true, false}
 use mathlib.Core.List.{List}
-use Prim.Native.Nat.{ℕ}
 use lib.Dec.{ltb}
 use lib.ListN.{length}
 use lib.Ieee.{Float, le, lt, whole}

@@ -9,7 +9,6 @@ use Rattle.answer.specs.declared.Decibels.{Decibels}
 use Rattle.eq_settings.specs.Bands.{settable, taken, clears}
 use Rattle.eq_settings.specs.declared.Numbers.{Numbers}
 use Rattle.eq_settings.specs.declared.Band.{Band}
-use Rattle.eq_settings.specs.declared.Settings.{Settings}
 use Rattle.eq_sample.specs.declared.Delay.{Delay}
 use Rattle.eq_sample.specs.declared.Registers.{Registers}
 use Rattle.eq.specs.declared.Equaliser.{Equaliser}

@@ -1,11 +1,11 @@
 -- The loop that tests each band: what holds after i of them.
 -- Assumes nothing.
-use mathlib.Core.Path.{_≡_, refl, sym, _∙_}
-use mathlib.Core.Bool.{true, false}
-use mathlib.Core.List.{List}
 use Prim.Native.Nat.{ℕ, _+_, _≤_, _<_}
 use native.Mathlib.Numerals.{add-one}
 use native.Mathlib.Omega.{arith}
+use mathlib.Core.Path.{_≡_, refl, _∙_}
+use mathlib.Core.Bool.{true, false}
+use mathlib.Core.List.{List}
 use lib.ListN.{length, drop, getD, drop-of-length-le}
 use lib.Seq.{drop-cons}
 use Rattle.eq_settings.specs.Bands.{bandSettable, allSettable}
@@ -19,16 +19,16 @@ pub record Upto (bs : List Band) (i : ℕ) : Type 0 where
 pub start : (bs : List Band) → Upto bs 0
 start bs = record { within = omega arith; rest = refl }
 
-module _ {bs : List Band} {i : ℕ} (u : Upto bs i) (long : length bs ≡ 16) (d : Band) where
-  pub onward : i < 16 → bandSettable (getD bs i d) ≡ true → Upto bs (i + 1)
+module _ {bs : List Band} {i : ℕ} (u : Upto bs i) (long : length bs ≡ 16) where
+  pub onward : (d : Band) → i < 16 → bandSettable (getD bs i d) ≡ true → Upto bs (i + 1)
   unfolding allSettable
-  onward h e =
+  onward d h e =
       let l : i < length bs = omega arith in
       record { within = omega arith; rest = u .rest ∙ rw (drop-cons bs i d l, add-one i, e) }
 
-  pub unlike : i < 16 → bandSettable (getD bs i d) ≡ false → allSettable bs ≡ false
+  pub unlike : (d : Band) → i < 16 → bandSettable (getD bs i d) ≡ false → allSettable bs ≡ false
   unfolding allSettable
-  unlike h e =
+  unlike d h e =
       let l : i < length bs = omega arith in
       u .rest ∙ rw (drop-cons bs i d l, e)
 

@@ -1,10 +1,9 @@
 -- What a band may hold, what a setting leaves, and which settings could have been set or made. Definitions only.
 -- Assumes nothing.
-use Prim.Native.Nat.{ℕ}
-use mathlib.Core.Bool.{Bool, true, false, _&&_, _||_, cond}
+use mathlib.Core.Bool.{Bool, true, _&&_, _||_, cond}
 use mathlib.Core.List.{List, [], _∷_}
 use lib.Dec.{eqb}
-use lib.Ieee.{Float, binary64, eq, lt, neg, toBits}
+use lib.Ieee.{binary64, eq, lt, neg, toBits}
 use lib.Ieee.Scale.{finite}
 use Rattle.rounding.specs.Casts.{absolute}
 use Rattle.answer.specs.Figures.{f32, f64, nought, one}

@@ -22,73 +22,55 @@ ghost use Rattle.answer.specs.Told as Told;
 ghost use Rattle.multiband_saturator.specs.Answers.{told, toldRead};
 ghost use Rattle.multiband_saturator.specs.Calls as Calls;
 
-const HALF_AT_REST: Half = Half {
-    x1: 0.0,
-    x2: 0.0,
-    y1: 0.0,
-    y2: 0.0,
-};
-
-const FILTER_AT_REST: Filter = Filter {
-    first: HALF_AT_REST,
-    second: HALF_AT_REST,
-};
-
-const BAND_AT_REST: Band = Band {
-    level: 0.0,
-    x1: 0.0,
-    y1: 0.0,
-};
-
-const AT_REST: Registers = Registers {
-    low: FILTER_AT_REST,
-    side: FILTER_AT_REST,
-    mid: FILTER_AT_REST,
-    high: FILTER_AT_REST,
-    lowpass: FILTER_AT_REST,
-    highpass: FILTER_AT_REST,
-    lows: BAND_AT_REST,
-    mids: BAND_AT_REST,
-    highs: BAND_AT_REST,
-};
-
-const NO_NUMBERS: Numbers = Numbers {
-    b0: 0.0,
-    b1: 0.0,
-    b2: 0.0,
-    a1: 0.0,
-    a2: 0.0,
-};
-
-const NO_CROSSOVER: Crossover = Crossover {
-    lowpass: NO_NUMBERS,
-    highpass: NO_NUMBERS,
-};
-
-const NO_BANDS: Bands = Bands {
-    low: 0.0,
-    mid: 0.0,
-    high: 0.0,
-};
-
-// What a refused making gives.
-const UNMADE: Saturator = Saturator {
-    settings: Settings {
-        rate: 0.0,
-        drives: NO_BANDS,
-        levels: NO_BANDS,
-        frequencies: Frequencies {
-            low: 0.0,
-            high: 0.0,
-        },
-        low: NO_CROSSOVER,
-        high: NO_CROSSOVER,
-        attack: 0.0,
-        release: 0.0,
-        blocker: 0.0,
+// What a read takes for the numbers beside its name.
+const NO_NUMBERS: Crossover = Crossover {
+    lowpass: Numbers {
+        b0: 0.0,
+        b1: 0.0,
+        b2: 0.0,
+        a1: 0.0,
+        a2: 0.0,
     },
-    registers: AT_REST,
+    highpass: Numbers {
+        b0: 0.0,
+        b1: 0.0,
+        b2: 0.0,
+        a1: 0.0,
+        a2: 0.0,
+    },
 };
+
+// Every register 0.
+fn at_rest() -> Registers
+    ensures { λ r. ⌜ r ≡ Calls.atRest ⌝ }
+{
+    let half = Half {
+        x1: 0.0,
+        x2: 0.0,
+        y1: 0.0,
+        y2: 0.0,
+    };
+    let filter = Filter {
+        first: half,
+        second: half,
+    };
+    let band = Band {
+        level: 0.0,
+        x1: 0.0,
+        y1: 0.0,
+    };
+    Registers {
+        low: filter,
+        side: filter,
+        mid: filter,
+        high: filter,
+        lowpass: filter,
+        highpass: filter,
+        lows: band,
+        mids: band,
+        highs: band,
+    }
+}
 
 fn refused(s: Saturator, r: Refusal) -> Answered
     ensures { λ a. ⌜ told (a .saturator) (a .answer) ≡ Told.refused s r ⌝ }
@@ -96,6 +78,73 @@ fn refused(s: Saturator, r: Refusal) -> Answered
     Answered {
         saturator: s,
         answer: Answer::Refused(r),
+    }
+}
+
+// A refused making: every number is 0.
+fn unmade(r: Refusal) -> Answered
+    ensures { λ a. ⌜ told (a .saturator) (a .answer) ≡ Told.refused Calls.unmade r ⌝ }
+{
+    let none = Bands {
+        low: 0.0,
+        mid: 0.0,
+        high: 0.0,
+    };
+    let settings = Settings {
+        rate: 0.0,
+        drives: none,
+        levels: none,
+        frequencies: Frequencies {
+            low: 0.0,
+            high: 0.0,
+        },
+        low: NO_NUMBERS,
+        high: NO_NUMBERS,
+        attack: 0.0,
+        release: 0.0,
+        blocker: 0.0,
+    };
+    let registers = at_rest();
+    refused(
+        Saturator {
+            settings: settings,
+            registers: registers,
+        },
+        r,
+    )
+}
+
+fn made_settings(
+    rate: f32,
+    low: Crossover,
+    high: Crossover,
+    attack: f32,
+    release: f32,
+    blocker: f32,
+) -> Settings
+    ensures { λ r. ⌜ r ≡ Calls.madeSettings rate low high attack release blocker ⌝ }
+{
+    Settings {
+        rate: rate,
+        drives: Bands {
+            low: 0.0,
+            mid: 0.0,
+            high: 0.0,
+        },
+        levels: Bands {
+            low: 1.0,
+            mid: 1.0,
+            high: 1.0,
+        },
+        frequencies: Frequencies {
+            low: 200.0,
+            high: 2000.0,
+        },
+        low: low,
+        high: high,
+        attack: attack,
+        release: release,
+        blocker: blocker,
     }
 }
 
@@ -111,33 +160,15 @@ pub fn make(
     ensures { λ r. ⌜ told (r .saturator) (r .answer) ≡ Calls.make rate low high attack release blocker ⌝ }
 {
     if !answer::is_rate(rate) {
-        return refused(UNMADE, Refusal::BadRate);
+        return unmade(Refusal::BadRate);
     }
     if !saturator_settings::lent(low, high, attack, release, blocker) {
-        return refused(UNMADE, Refusal::BadWorkedNumber);
+        return unmade(Refusal::BadWorkedNumber);
     }
-    let settings = Settings {
-        rate: rate,
-        drives: NO_BANDS,
-        levels: Bands {
-            low: 1.0,
-            mid: 1.0,
-            high: 1.0,
-        },
-        frequencies: Frequencies {
-            low: 200.0,
-            high: 2000.0,
-        },
-        low: low,
-        high: high,
-        attack: attack,
-        release: release,
-        blocker: blocker,
-    };
     Answered {
         saturator: Saturator {
-            settings: settings,
-            registers: AT_REST,
+            settings: made_settings(rate, low, high, attack, release, blocker),
+            registers: at_rest(),
         },
         answer: Answer::Done,
     }
@@ -187,7 +218,7 @@ pub fn read(s: Saturator, name: &[u8]) -> Reading
     if !saturator_settings::settable(s.settings) {
         return Reading::Refused(Refusal::BadState);
     }
-    let Named::Known(t) = saturator_settings::find(name, 0.0, NO_CROSSOVER) else {
+    let Named::Known(t) = saturator_settings::find(name, 0.0, NO_NUMBERS) else {
         return Reading::Refused(Refusal::NoSetting);
     };
     Reading::Done(saturator_settings::kept(s.settings, t))
@@ -204,7 +235,7 @@ pub fn reset(s: Saturator) -> Answered
     Answered {
         saturator: Saturator {
             settings: settings,
-            registers: AT_REST,
+            registers: at_rest(),
         },
         answer: Answer::Done,
     }

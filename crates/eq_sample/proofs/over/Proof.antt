@@ -1,7 +1,7 @@
 -- `eq_sample::over` meets its contract. Assumes nothing.
-use native.Mathlib.Omega.{arith}
 use Prim.Native.Nat.{_-_, _<_}
-use mathlib.Core.Path.{_≡_, refl, sym, _∙_}
+use native.Mathlib.Omega.{arith}
+use mathlib.Core.Path.{refl}
 use lib.ListN.{length}
 use lib.Ieee.{nan}
 use Rattle.fold.proofs.Block.{Upto, start, onward, ended}

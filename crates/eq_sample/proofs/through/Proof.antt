@@ -1,9 +1,8 @@
 -- `eq_sample::through` meets its contract. Assumes nothing.
-use borrow.Author.Needs.{needs}
 use Prim.Native.Nat.{_-_}
 use lib.ListN.{length-map}
-use lib.Ieee.{nan}
 use Rattle.eq_sample.proofs.InRow.{Upto, start, onward, ended, all-bands}
+use borrow.Author.Needs.{needs}
 use Rattle.eq_sample.proofs.through.Statement.{statement}
 use Rattle.eq_sample.proofs.through.Tie as tie
 

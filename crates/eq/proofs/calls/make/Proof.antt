@@ -1,7 +1,7 @@
 -- `eq::calls::make` meets its contract. Assumes nothing.
 use mathlib.Core.Path.{sym, _∙_}
-use borrow.Author.Tests.{not-true, not-false}
 use lib.Ieee.{ofBits}
+use borrow.Author.Tests.{not-true, not-false}
 use Rattle.eq.specs.Calls.{make}
 use borrow.Author.Needs.{needs}
 use Rattle.eq.proofs.calls.make.Statement.{statement}

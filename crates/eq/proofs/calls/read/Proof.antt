@@ -24,7 +24,10 @@ enum-told c = search needs
 
 returns-2 : tie.Need-returns-2
 unfolding read readFound
-returns-2 c = let found = c .before .before in let accepted = found .before in rw (sym (accepted .before .acceptable .ensures) ∙ not-false _ (accepted .if1 .left), sym (found .index-of .ensures) ∙ c .enum-told .given .1)
+returns-2 c =
+    let found = c .before .before in
+    let accepted = found .before in
+    rw (sym (accepted .before .acceptable .ensures) ∙ not-false _ (accepted .if1 .left), sym (found .index-of .ensures) ∙ c .enum-told .given .1)
 
 returns-3 : tie.Need-returns-3
 unfolding read readFound

@@ -30,7 +30,11 @@ refused-requires-2 c κs = search needs
 
 returns-2 : tie.Need-returns-2
 unfolding set setFound
-returns-2 c = let unknown = c .before in let found = unknown .before .before in let accepted = found .before in c .refused2 .ensures ∙ rw (sym (accepted .before .acceptable .ensures) ∙ not-false _ (accepted .if1 .left), sym (found .find .ensures) ∙ unknown .enum-told .given .1)
+returns-2 c =
+    let unknown = c .before in
+    let found = unknown .before .before in
+    let accepted = found .before in
+    c .refused2 .ensures ∙ rw (sym (accepted .before .acceptable .ensures) ∙ not-false _ (accepted .if1 .left), sym (found .find .ensures) ∙ unknown .enum-told .given .1)
 
 set-band-requires : tie.Need-set-band-requires
 set-band-requires c κs = search needs

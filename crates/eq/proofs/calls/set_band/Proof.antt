@@ -21,7 +21,9 @@ refused-requires-2 c κs = search needs
 
 returns-2 : tie.Need-returns-2
 unfolding setBand
-returns-2 c = let accepted = c .before .before in c .refused2 .ensures ∙ rw (sym (accepted .before .acceptable .ensures) ∙ not-false _ (accepted .if1 .left), le-ltb _ _ (c .before .if2 .taken))
+returns-2 c =
+    let accepted = c .before .before in
+    c .refused2 .ensures ∙ rw (sym (accepted .before .acceptable .ensures) ∙ not-false _ (accepted .if1 .left), le-ltb _ _ (c .before .if2 .taken))
 
 in-its-range-requires : tie.Need-in-its-range-requires
 in-its-range-requires c κs = search needs
@@ -31,7 +33,11 @@ refused-requires-3 c κs = search needs
 
 returns-3 : tie.Need-returns-3
 unfolding setBand
-returns-3 c = let ranged = c .before .before in let there = ranged .before in let accepted = there .before in c .refused3 .ensures ∙ rw (sym (accepted .before .acceptable .ensures) ∙ not-false _ (accepted .if1 .left), lt-ltb _ _ (there .if2 .left), sym (ranged .in-its-range .ensures) ∙ not-true _ (c .before .if3 .taken))
+returns-3 c =
+    let ranged = c .before .before in
+    let there = ranged .before in
+    let accepted = there .before in
+    c .refused3 .ensures ∙ rw (sym (accepted .before .acceptable .ensures) ∙ not-false _ (accepted .if1 .left), lt-ltb _ _ (there .if2 .left), sym (ranged .in-its-range .ensures) ∙ not-true _ (c .before .if3 .taken))
 
 worked-requires : tie.Need-worked-requires
 worked-requires c κs = search needs
@@ -41,7 +47,12 @@ refused-requires-4 c κs = search needs
 
 returns-4 : tie.Need-returns-4
 unfolding setBand
-returns-4 c = let numbered = c .before .before in let ranged = numbered .before .before in let there = ranged .before in let accepted = there .before in c .refused4 .ensures ∙ rw (sym (accepted .before .acceptable .ensures) ∙ not-false _ (accepted .if1 .left), lt-ltb _ _ (there .if2 .left), sym (ranged .in-its-range .ensures) ∙ not-false _ (numbered .before .if3 .left), sym (numbered .worked .ensures) ∙ not-true _ (c .before .if4 .taken))
+returns-4 c =
+    let numbered = c .before .before in
+    let ranged = numbered .before .before in
+    let there = ranged .before in
+    let accepted = there .before in
+    c .refused4 .ensures ∙ rw (sym (accepted .before .acceptable .ensures) ∙ not-false _ (accepted .if1 .left), lt-ltb _ _ (there .if2 .left), sym (ranged .in-its-range .ensures) ∙ not-false _ (numbered .before .if3 .left), sym (numbered .worked .ensures) ∙ not-true _ (c .before .if4 .taken))
 
 with-band-requires : tie.Need-with-band-requires
 with-band-requires c κs = search needs
@@ -51,7 +62,12 @@ done-requires c κs = search needs
 
 returns-5 : tie.Need-returns-5
 unfolding setBand
-returns-5 c = let numbered = c .before .before .before in let ranged = numbered .before .before in let there = ranged .before in let accepted = there .before in c .done .ensures ∙ rw (sym (accepted .before .acceptable .ensures) ∙ not-false _ (accepted .if1 .left), lt-ltb _ _ (there .if2 .left), sym (ranged .in-its-range .ensures) ∙ not-false _ (numbered .before .if3 .left), sym (numbered .worked .ensures) ∙ not-false _ (c .before .before .if4 .left), c .before .with-band .ensures)
+returns-5 c =
+    let numbered = c .before .before .before in
+    let ranged = numbered .before .before in
+    let there = ranged .before in
+    let accepted = there .before in
+    c .done .ensures ∙ rw (sym (accepted .before .acceptable .ensures) ∙ not-false _ (accepted .if1 .left), lt-ltb _ _ (there .if2 .left), sym (ranged .in-its-range .ensures) ∙ not-false _ (numbered .before .if3 .left), sym (numbered .worked .ensures) ∙ not-false _ (c .before .before .if4 .left), c .before .with-band .ensures)
 
 pub set-band-spec : {M : Type 1} → statement M
 set-band-spec =

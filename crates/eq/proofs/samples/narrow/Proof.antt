@@ -1,5 +1,4 @@
 -- `eq::samples::narrow` meets its contract. Assumes nothing.
-use borrow.Author.Needs.{needs}
 use Prim.Native.Nat.{_-_}
 use mathlib.Core.Path.{refl, _∙_}
 use lib.ListN.{length}
@@ -7,6 +6,7 @@ use lib.Ieee.{nan}
 use Rattle.eq.proofs.Each.{stays, alone, each}
 use Rattle.rounding.specs.Casts as Casts
 use Rattle.fold.proofs.Block.{Upto, start, onward, ended}
+use borrow.Author.Needs.{needs}
 use Rattle.eq.proofs.samples.narrow.Statement.{statement}
 use Rattle.eq.proofs.samples.narrow.Tie as tie
 

@@ -1,11 +1,11 @@
 -- `eq::samples::widen` meets its contract. Assumes nothing.
-use borrow.Author.Needs.{needs}
 use Prim.Native.Nat.{_-_}
 use mathlib.Core.Path.{refl, _∙_}
 use lib.ListN.{length}
 use lib.Ieee.{Float, nan}
 use Rattle.eq.proofs.Each.{stays, alone, each, itself}
 use Rattle.fold.proofs.Block.{Upto, start, onward, ended}
+use borrow.Author.Needs.{needs}
 use Rattle.eq.proofs.samples.widen.Statement.{statement}
 use Rattle.eq.proofs.samples.widen.Tie as tie
 

@@ -21,14 +21,18 @@ is-passthrough-requires c κs = search needs
 
 returns-2 : tie.Need-returns-2
 unfolding bandSettable
-returns-2 c = let ranged = c .before .before .before in rw (sym (ranged .before .in-its-range .ensures) ∙ not-false _ (ranged .if1 .left), sym (c .before .before .is-unity .ensures) ∙ c .before .if2 .taken) (c .is-passthrough .ensures)
+returns-2 c =
+    let ranged = c .before .before .before in
+    rw (sym (ranged .before .in-its-range .ensures) ∙ not-false _ (ranged .if1 .left), sym (c .before .before .is-unity .ensures) ∙ c .before .if2 .taken) (c .is-passthrough .ensures)
 
 worked-requires : tie.Need-worked-requires
 worked-requires c κs = search needs
 
 returns-3 : tie.Need-returns-3
 unfolding bandSettable
-returns-3 c = let ranged = c .before .before .before in rw (sym (ranged .before .in-its-range .ensures) ∙ not-false _ (ranged .if1 .left), sym (c .before .before .is-unity .ensures) ∙ c .before .if2 .left) (c .worked .ensures)
+returns-3 c =
+    let ranged = c .before .before .before in
+    rw (sym (ranged .before .in-its-range .ensures) ∙ not-false _ (ranged .if1 .left), sym (c .before .before .is-unity .ensures) ∙ c .before .if2 .left) (c .worked .ensures)
 
 pub band-settable-spec : {M : Type 1} → statement M
 band-settable-spec =

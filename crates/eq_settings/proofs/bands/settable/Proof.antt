@@ -1,12 +1,11 @@
 -- `eq_settings::bands::settable` meets its contract. Assumes nothing.
-use borrow.Author.Tests.{not-true, not-false}
-use Rattle.eq_settings.specs.Bands.{settable, passthrough}
-use lib.Ieee.{nan}
-use borrow.Author.Needs.{needs}
-use mathlib.Core.Path.{sym, _∙_}
 use Prim.Native.Nat.{_-_}
+use mathlib.Core.Path.{sym, _∙_}
 use lib.ListN.{length-map}
+use borrow.Author.Tests.{not-true, not-false}
+use Rattle.eq_settings.specs.Bands.{settable}
 use Rattle.eq_settings.proofs.EachBand.{Upto, start, onward, unlike, ended}
+use borrow.Author.Needs.{needs}
 use Rattle.eq_settings.proofs.bands.settable.Statement.{statement}
 use Rattle.eq_settings.proofs.bands.settable.Tie as tie
 
@@ -37,7 +36,12 @@ band-settable-requires c κs = search needs
 
 returns-2 : tie.Need-returns-2 Inv-loop μ-loop
 unfolding settable
-returns-2 c = let rated = c .before .before .before .before .before .before in let e = unlike (c .before .before .before .before .loop .inv) (simp length-map at (c .before .before .before .before .before .before .before .before .good .0 .1 .1 .1 .0 .1 .0 .1)) _ (c .before .before .before .loop-test .taken) (sym (c .before .band-settable .ensures) ∙ not-true _ (c .if2 .taken)) in rw (sym (rated .before .is-rate .ensures) ∙ not-false _ (rated .if1 .left), e)
+returns-2 c =
+    let at-loop = c .before .before .before .before in
+    let rated = at-loop .before .before in
+    let sixteen = simp length-map at (rated .before .before .good .0 .1 .1 .1 .0 .1 .0 .1) in
+    let e = unlike (at-loop .loop .inv) sixteen _ (c .before .before .before .loop-test .taken) (sym (c .before .band-settable .ensures) ∙ not-true _ (c .if2 .taken)) in
+    rw (sym (rated .before .is-rate .ensures) ∙ not-false _ (rated .if1 .left), e)
 
 add-i : tie.Need-add-i Inv-loop μ-loop
 add-i c = search needs
@@ -46,11 +50,18 @@ loop-less : tie.Need-loop-less Inv-loop μ-loop
 loop-less c = search needs
 
 loop-again : tie.Need-loop-again Inv-loop μ-loop
-loop-again c = onward (c .before .before .before .before .loop .inv) (simp length-map at (c .before .before .before .before .before .before .before .before .good .0 .1 .1 .1 .0 .1 .0 .1)) _ (c .before .before .before .loop-test .taken) (sym (c .before .band-settable .ensures) ∙ not-false _ (c .if2 .left))
+loop-again c =
+    let at-loop = c .before .before .before .before in
+    let sixteen = simp length-map at (at-loop .before .before .before .before .good .0 .1 .1 .1 .0 .1 .0 .1) in
+    onward (at-loop .loop .inv) sixteen _ (c .before .before .before .loop-test .taken) (sym (c .before .band-settable .ensures) ∙ not-false _ (c .if2 .left))
 
 returns-3 : tie.Need-returns-3 Inv-loop μ-loop
 unfolding settable
-returns-3 c = let rated = c .before .before .before in let e = ended (c .before .loop .inv) (simp length-map at (c .before .before .before .before .before .good .0 .1 .1 .1 .0 .1 .0 .1)) (record { value = record { 0 = nan }; numbers = passthrough }) (c .loop-test .left) in rw (sym (rated .before .is-rate .ensures) ∙ not-false _ (rated .if1 .left), e)
+returns-3 c =
+    let rated = c .before .before .before in
+    let sixteen = simp length-map at (rated .before .before .good .0 .1 .1 .1 .0 .1 .0 .1) in
+    let e = ended (c .before .loop .inv) sixteen (c .loop-test .left) in
+    rw (sym (rated .before .is-rate .ensures) ∙ not-false _ (rated .if1 .left), e)
 
 pub settable-spec : {M : Type 1} → statement M
 settable-spec =

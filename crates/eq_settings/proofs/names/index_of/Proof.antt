@@ -1,8 +1,8 @@
 -- `eq_settings::names::index_of` meets its contract. Assumes nothing.
-use mathlib.Core.Path.{sym, _∙_}
 use native.Mathlib.Omega.{arith}
-use borrow.Author.Tests.{not-true, not-false}
+use mathlib.Core.Path.{sym, _∙_}
 use lib.ListN.{length-take}
+use borrow.Author.Tests.{not-true, not-false}
 use Rattle.eq_settings.proofs.Prefix.{too-short, other, bare, plus, plain}
 use borrow.Author.Needs.{needs}
 use Rattle.eq_settings.proofs.names.index_of.Statement.{statement}

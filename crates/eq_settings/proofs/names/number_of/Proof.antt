@@ -1,10 +1,10 @@
 -- `eq_settings::names::number_of` meets its contract. Assumes nothing.
-use borrow.Author.Needs.{needs}
-use native.Mathlib.Omega.{arith}
 use Prim.Native.Nat.{_-_}
+use native.Mathlib.Omega.{arith}
 use mathlib.Core.Path.{sym}
 use lib.ListN.{length}
 use Rattle.eq_settings.proofs.Digits.{Upto, start, nothing, no-digit, too-large, below, above, within, onward, ended}
+use borrow.Author.Needs.{needs}
 use Rattle.eq_settings.proofs.names.number_of.Statement.{statement}
 use Rattle.eq_settings.proofs.names.number_of.Tie as tie
 

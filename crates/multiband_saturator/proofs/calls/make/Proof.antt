@@ -1,9 +1,7 @@
 -- `multiband_saturator::calls::make` meets its contract. Assumes nothing.
 use mathlib.Core.Path.{sym, _∙_}
 use borrow.Author.Tests.{not-true, not-false}
-use lib.Ieee.{ofBits}
-use Rattle.answer.specs.Figures.{f32}
-use Rattle.multiband_saturator.specs.Calls.{make, madeSettings}
+use Rattle.multiband_saturator.specs.Calls.{make}
 use borrow.Author.Needs.{needs}
 use Rattle.multiband_saturator.proofs.calls.make.Statement.{statement}
 use Rattle.multiband_saturator.proofs.calls.make.Tie as tie
@@ -11,41 +9,51 @@ use Rattle.multiband_saturator.proofs.calls.make.Tie as tie
 is-rate-requires : tie.Need-is-rate-requires
 is-rate-requires c κs = search needs
 
-refused-requires : tie.Need-refused-requires
-refused-requires c κs = search needs
+unmade-requires : tie.Need-unmade-requires
+unmade-requires c κs = search needs
 
 returns : tie.Need-returns
-unfolding make ofBits
-returns c = c .refused .ensures ∙ rw (sym (c .before .before .is-rate .ensures) ∙ not-true _ (c .before .if1 .taken))
+unfolding make
+returns c = c .unmade .ensures ∙ rw (sym (c .before .before .is-rate .ensures) ∙ not-true _ (c .before .if1 .taken))
 
 lent-requires : tie.Need-lent-requires
 lent-requires c κs = search needs
 
-refused-requires-2 : tie.Need-refused-requires-2
-refused-requires-2 c κs = search needs
+unmade-requires-2 : tie.Need-unmade-requires-2
+unmade-requires-2 c κs = search needs
 
 returns-2 : tie.Need-returns-2
-unfolding make ofBits
+unfolding make
 returns-2 c =
     let lent = c .before .before in
     let rated = lent .before in
-    c .refused2 .ensures ∙ rw (sym (rated .before .is-rate .ensures) ∙ not-false _ (rated .if1 .left), sym (lent .lent .ensures) ∙ not-true _ (c .before .if2 .taken))
+    c .unmade2 .ensures ∙ rw (sym (rated .before .is-rate .ensures) ∙ not-false _ (rated .if1 .left), sym (lent .lent .ensures) ∙ not-true _ (c .before .if2 .taken))
+
+made-settings-requires : tie.Need-made-settings-requires
+made-settings-requires c κs = search needs
+
+at-rest-requires : tie.Need-at-rest-requires
+at-rest-requires c κs = search needs
 
 returns-3 : tie.Need-returns-3
-unfolding make madeSettings f32 ofBits
+unfolding make
 returns-3 c =
-    let lent = c .before in
+    let set = c .before in
+    let accepted = set .before in
+    let lent = accepted .before in
     let rated = lent .before in
-    rw (sym (rated .before .is-rate .ensures) ∙ not-false _ (rated .if1 .left), sym (lent .lent .ensures) ∙ not-false _ (c .if2 .left))
+    rw (sym (rated .before .is-rate .ensures) ∙ not-false _ (rated .if1 .left), sym (lent .lent .ensures) ∙ not-false _ (accepted .if2 .left), set .made-settings .ensures, c .at-rest .ensures)
 
 pub make-spec : {M : Type 1} → statement M
 make-spec =
     tie.close
     (tie.spec
     is-rate-requires
-    refused-requires
+    unmade-requires
     returns
     lent-requires
-    refused-requires-2
+    unmade-requires-2
     returns-2
+    made-settings-requires
+    at-rest-requires
     returns-3)
