@@ -264,9 +264,31 @@ const TABLE: [f32; SIZE] = [
     1.0,
 ];
 
+// The four entries that a lookup reads.
+pub struct Around {
+    pub p0: f32,
+    pub p1: f32,
+    pub p2: f32,
+    pub p3: f32,
+}
+
 pub fn entry(i: usize) -> f32
     requires { ⌜ i < 256 ⌝ }
     ensures { λ r. ⌜ r ≡ entry i ⌝ }
 {
     TABLE[i]
+}
+
+// The entries at four places. They are read together, since each reading of a constant table is a reading of all of it.
+pub fn read_around(i: usize, j: usize, k: usize, l: usize) -> Around
+    requires { ⌜ (i < 256) × (j < 256) × (k < 256) × (l < 256) ⌝ }
+    ensures { λ r. ⌜ r ≡ record { p0 = entry i; p1 = entry j; p2 = entry k; p3 = entry l } ⌝ }
+{
+    let table = TABLE;
+    Around {
+        p0: table[i],
+        p1: table[j],
+        p2: table[k],
+        p3: table[l],
+    }
 }

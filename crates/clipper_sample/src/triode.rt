@@ -36,11 +36,8 @@ fn lookup(i: usize, fraction: f32) -> f32
     requires { ⌜ i ≤ 254 ⌝ }
     ensures { λ r. ⌜ r ≡ samples.lookup i fraction ⌝ }
 {
-    let p0 = table::entry(previous(i));
-    let p1 = table::entry(i);
-    let p2 = table::entry(least(i + 1, 255));
-    let p3 = table::entry(least(i + 2, 255));
-    interpolated(p0, p1, p2, p3, fraction)
+    let p = table::read_around(previous(i), i, least(i + 1, 255), least(i + 2, 255));
+    interpolated(p.p0, p.p1, p.p2, p.p3, fraction)
 }
 
 // One less, and 0 from 0.
