@@ -1,47 +1,9 @@
 /* The same steps as the library's float functions, in C: what they cost without proofs. */
 #include "rendering.h"
 
-#include <string.h>
+#include "floats.h"
 
 typedef unsigned __int128 uint128_t;
-
-static uint32_t bits32(float x)
-{
-    uint32_t n;
-    memcpy(&n, &x, sizeof n);
-    return n;
-}
-
-static uint64_t bits64(double x)
-{
-    uint64_t n;
-    memcpy(&n, &x, sizeof n);
-    return n;
-}
-
-static float from_bits32(uint32_t n)
-{
-    float x;
-    memcpy(&x, &n, sizeof x);
-    return x;
-}
-
-static double from_bits64(uint64_t n)
-{
-    double x;
-    memcpy(&x, &n, sizeof x);
-    return x;
-}
-
-static float settled32(float x)
-{
-    return x != x ? from_bits32(0x7fc00000) : x;
-}
-
-static double settled64(double x)
-{
-    return x != x ? from_bits64(0x7ff8000000000000) : x;
-}
 
 /* n / 2^i to the nearest whole number, a tie to the even one, for n below 2^63. */
 static uint64_t nearest(uint64_t n, unsigned i)
@@ -85,20 +47,20 @@ static struct part part_of(uint64_t size, unsigned digits)
 static float made32(uint32_t sign, uint64_t n, unsigned e)
 {
     if (n == 0)
-        return from_bits32(sign);
+        return float_of(sign);
     unsigned t = __builtin_clzll(n) - 1, k = e - t;
     uint64_t m = n << t;
     uint64_t size = k >= 124 ? ((uint64_t)(k - 124) << 23) + nearest(m, 39) : nearest(m, 163 - k);
-    return from_bits32(sign | (uint32_t)least(size, 0x7f800000));
+    return float_of(sign | (uint32_t)least(size, 0x7f800000));
 }
 
 static float whole32(float a, float b, float c)
 {
-    uint32_t i = bits32(a), j = bits32(b), l = bits32(c);
+    uint32_t i = bytes32(a), j = bytes32(b), l = bytes32(c);
     uint32_t s = (i ^ j) & 0x80000000, t = l & 0x80000000;
     i &= 0x7fffffff, j &= 0x7fffffff, l &= 0x7fffffff;
     if (i >= 0x7f800000 || j >= 0x7f800000)
-        return settled32(a * b + c);
+        return settled(a * b + c);
     if (l >= 0x7f800000)
         return c;
     struct part x = part_of(i, 23), y = part_of(j, 23), z = part_of(l, 23);
@@ -116,23 +78,23 @@ static float whole32(float a, float b, float c)
 static float normal32(uint32_t sign, uint64_t n, unsigned x)
 {
     unsigned t = __builtin_clzll(n);
-    return from_bits32(sign | (((x - 111 - t) << 23) + (uint32_t)nearest(n << (t - 1), 39)));
+    return float_of(sign | (((x - 111 - t) << 23) + (uint32_t)nearest(n << (t - 1), 39)));
 }
 
 static float outside32(float a, float b, float c)
 {
     if (a == 0 || b == 0)
-        return settled32(a * b + c);
+        return settled(a * b + c);
     if (c == 0)
-        return settled32(a * b);
+        return settled(a * b);
     return whole32(a, b, c);
 }
 
 float rendered_fma32(float a, float b, float c)
 {
     if (a != a || b != b || c != c)
-        return from_bits32(0x7fc00000);
-    uint32_t i = bits32(a), j = bits32(b), l = bits32(c);
+        return float_of(QUIET32);
+    uint32_t i = bytes32(a), j = bytes32(b), l = bytes32(c);
     uint32_t s = (i ^ j) & 0x80000000, t = l & 0x80000000;
     unsigned x = i >> 23 & 255, y = j >> 23 & 255, z = l >> 23 & 255, d = z + 150 - (x + y);
     if (z - 62 > 131 || y - 1 > 253 || x - 1 > 253)
@@ -160,18 +122,18 @@ static struct part top(uint128_t n)
 static double made64(uint64_t sign, uint128_t n, unsigned e)
 {
     if (n == 0)
-        return from_bits64(sign);
+        return double_of(sign);
     struct part g = top(n);
     unsigned t = __builtin_clzll(g.m) - 1, k = e + g.k - t;
     uint64_t m = g.m << t;
     uint64_t size =
         k >= 1082 ? ((uint64_t)(k - 1082) << 52) + nearest(m, 10) : nearest(m, 1092 - k);
-    return from_bits64(sign | least(size, 0x7ff0000000000000));
+    return double_of(sign | least(size, 0x7ff0000000000000));
 }
 
 static double whole64(double a, double b, double c)
 {
-    uint64_t i = bits64(a), j = bits64(b), l = bits64(c), sign = (uint64_t)1 << 63;
+    uint64_t i = bytes64(a), j = bytes64(b), l = bytes64(c), sign = (uint64_t)1 << 63;
     uint64_t s = (i ^ j) & sign, t = l & sign;
     i &= ~sign, j &= ~sign, l &= ~sign;
     if (i >= 0x7ff0000000000000 || j >= 0x7ff0000000000000)
@@ -195,7 +157,7 @@ static double normal64(uint64_t sign, uint128_t n, unsigned x)
     uint64_t high = n >> 64;
     unsigned t = __builtin_clzll(high) - 1;
     uint64_t m = n << t >> 64, rest = (uint64_t)n << t;
-    return from_bits64(sign | (((uint64_t)(x - 1002 - t) << 52) + nearest(m | (rest != 0), 10)));
+    return double_of(sign | (((uint64_t)(x - 1002 - t) << 52) + nearest(m | (rest != 0), 10)));
 }
 
 double rendered_fma64(double a, double b, double c)
@@ -205,8 +167,8 @@ double rendered_fma64(double a, double b, double c)
     if (c == 0)
         return settled64(a * b);
     if (a != a || b != b || c != c)
-        return from_bits64(0x7ff8000000000000);
-    uint64_t i = bits64(a), j = bits64(b), l = bits64(c), sign = (uint64_t)1 << 63;
+        return double_of(QUIET64);
+    uint64_t i = bytes64(a), j = bytes64(b), l = bytes64(c), sign = (uint64_t)1 << 63;
     uint64_t hidden = (uint64_t)1 << 52, s = (i ^ j) & sign, t = l & sign;
     unsigned x = i >> 52 & 2047, y = j >> 52 & 2047, z = l >> 52 & 2047, d = x + y - (z + 1003);
     if (z - 62 > 1923 || y - 1 > 2045 || x - 1 > 2045 || d > 60)
@@ -223,12 +185,12 @@ double rendered_fma64(double a, double b, double c)
 
 float rendered_size32(float x)
 {
-    return x != x ? from_bits32(0x7fc00000) : from_bits32(bits32(x) & 0x7fffffff);
+    return x != x ? float_of(QUIET32) : float_of(bytes32(x) & 0x7fffffff);
 }
 
 double rendered_size64(double x)
 {
-    return x != x ? from_bits64(0x7ff8000000000000) : from_bits64(bits64(x) & ~((uint64_t)1 << 63));
+    return x != x ? double_of(QUIET64) : double_of(bytes64(x) & ~((uint64_t)1 << 63));
 }
 
 uint64_t rendered_truncated(float x)
@@ -238,5 +200,5 @@ uint64_t rendered_truncated(float x)
 
 float rendered_narrowed(double x)
 {
-    return settled32((float)x);
+    return settled((float)x);
 }

@@ -2,31 +2,19 @@
  * out, in double. */
 #include "settings.h"
 
-#include <math.h>
+#include "steps/worked.h"
 
 static const double pi = 3.14159265358979323846;
 
-/* The smoothing number of a time in milliseconds. */
-float smoothing(double ms)
-{
-    return (float)exp(-1 / (RATE * 0.001 * ms));
-}
-
-/* A DC blocker's number for a corner in Hz. */
-float blocking(double corner)
-{
-    return (float)exp(-2 * pi * corner / RATE);
-}
-
 hoofglaze_gate a_gate(void)
 {
-    hoofglaze_gate g = hoofglaze_gate_make(RATE, smoothing(0.1), smoothing(10)).gate;
+    hoofglaze_gate g = hoofglaze_gate_make(RATE, smoothing(RATE, 0.1), smoothing(RATE, 10)).gate;
     g.settings.threshold.decibels = -40;
     g.settings.factor.factor = 0.01f;
     g.settings.attack = 1;
-    g.settings.opening = smoothing(1);
+    g.settings.opening = smoothing(RATE, 1);
     g.settings.release = 10;
-    g.settings.closing = smoothing(10);
+    g.settings.closing = smoothing(RATE, 10);
     g.settings.hold = 10;
     g.registers.state = 1;
     return g;
@@ -81,8 +69,9 @@ static hoofglaze_saturator_crossover crossover(double corner)
 
 hoofglaze_saturator a_saturator(void)
 {
-    hoofglaze_saturator s = hoofglaze_saturator_make(RATE, crossover(200), crossover(2000), smoothing(1),
-                                                     smoothing(50), blocking(15)).saturator;
+    float attack = smoothing(RATE, 1), release = smoothing(RATE, 50), blocker = blocking(RATE, 15);
+    hoofglaze_saturator s = hoofglaze_saturator_make(RATE, crossover(200), crossover(2000), attack, release,
+                                                     blocker).saturator;
     s.settings.drives = (hoofglaze_saturator_bands){0.5f, 0.75f, 0.25f};
     s.settings.levels = (hoofglaze_saturator_bands){1.25f, 1, 0.75f};
     return s;

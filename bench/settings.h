@@ -3,8 +3,6 @@
 
 enum { RATE = 48000 };
 
-float smoothing(double ms);
-float blocking(double corner);
 hoofglaze_gate a_gate(void);
 hoofglaze_eq an_equaliser(void);
 hoofglaze_tone a_tone_stack(void);

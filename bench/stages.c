@@ -7,6 +7,7 @@
 #include <string.h>
 
 #include "settings.h"
+#include "steps/worked.h"
 
 enum { SAMPLES = 4096, ROUNDS = 4 };
 
@@ -57,13 +58,13 @@ static void silence(void)
 
 static void follower(const struct offer *o)
 {
-    hoofglaze_follower f = hoofglaze_follower_make(smoothing(0.1), smoothing(10)).follower;
+    hoofglaze_follower f = hoofglaze_follower_make(smoothing(RATE, 0.1), smoothing(RATE, 10)).follower;
     STEPS(f, o->follower_step, follower)
 }
 
 static void blocker(const struct offer *o)
 {
-    hoofglaze_blocker b = hoofglaze_blocker_make(blocking(15)).blocker;
+    hoofglaze_blocker b = hoofglaze_blocker_make(blocking(RATE, 15)).blocker;
     STEPS(b, o->blocker_step, blocker)
 }
 

@@ -1,7 +1,7 @@
 /* Checks of the clipper's two block calls: each refusal with its number and place, an output buffer
  * that a refusal leaves to the byte, and done blocks as raw bits. */
 #include "checks.h"
-#include "hoofglaze.h"
+#include "steps/clipper.h"
 
 #define ONE 0x3f800000u
 #define SIGN 0x80000000u
@@ -13,7 +13,7 @@ static const uint32_t not_finite[] = {0x7f800000, 0xff800000, 0x7fc00000, 0x7f80
 static const uint32_t refused[] = {0x42800001, 0xc2800001, 0x7f800000, 0xff800000, 0x7fc00000, 0xff800001};
 
 /* The Rust's answers at drive 1. */
-static const uint32_t triode[][2] = {
+static const uint32_t known[][2] = {
     {0x00000000, 0xbf725dda}, {0x80000000, 0xbf725dda}, {0x3dcccccd, 0xbf6f3b63}, {0xbdcccccd, 0xbf754ccc},
     {0x3f000000, 0xbf6104ea}, {0xbf000000, 0xbf7e182b}, {0x3f800000, 0xbf4c305d}, {0xbf800000, 0xbf7ffe32},
     {0x40000000, 0xbf1aa810}, {0xc0000000, 0xbf800000}, {0x40e00000, 0x3f42bcac}, {0xc0e00000, 0xbf800000},
@@ -33,7 +33,8 @@ static void fill(uint32_t sample)
 }
 
 /* A refusal: its number and place, count 0, and every byte of the buffer as it was. */
-static void refuses(clip call, const char *name, uint32_t drive, uint64_t n, uint64_t m, uint32_t number, uint64_t place)
+static void refuses(clip call, const char *name, uint32_t drive, uint64_t n, uint64_t m, uint32_t number,
+                    uint64_t place)
 {
     hoofglaze_answer a = call(float_of(drive), input, n, output, m);
     check(name, a.number, number, drive, n, m);
@@ -74,29 +75,26 @@ static uint32_t one_sample(clip call, uint32_t drive, uint32_t x)
     return bytes32(output[0]);
 }
 
-static uint32_t clamped(uint32_t drive, uint32_t x)
-{
-    float driven = float_of(x) * float_of(drive);
-    return bytes32(driven < -1.0f ? -1.0f : driven > 1.0f ? 1.0f : driven);
-}
-
 static void done(void)
 {
     fill(ONE);
     hoofglaze_answer a = hoofglaze_clip_hard(float_of(ONE), input, 0, output, 0);
     check("an empty block", a.number | a.place | a.count, 0, 0, 0, 0);
     check("an empty block's output", bytes32(output[0]), UNTOUCHED, 0, 0, 0);
-    for (unsigned i = 0; i < sizeof triode / sizeof *triode; i++) {
-        uint32_t x = triode[i][0];
-        check("hoofglaze_clip_triode", one_sample(hoofglaze_clip_triode, ONE, x), triode[i][1], ONE, x, 0);
-        check("hoofglaze_clip_hard", one_sample(hoofglaze_clip_hard, ONE, x), clamped(ONE, x), ONE, x, 0);
+    for (unsigned i = 0; i < sizeof known / sizeof *known; i++) {
+        uint32_t x = known[i][0];
+        check("hoofglaze_clip_triode", one_sample(hoofglaze_clip_triode, ONE, x), known[i][1], ONE, x, 0);
+        uint32_t y = one_sample(hoofglaze_clip_hard, ONE, x);
+        check("hoofglaze_clip_hard", y, bytes32(hard(1, float_of(x))), ONE, x, 0);
     }
     for (int i = 0; i < RANDOM; i++) {
         uint64_t bits = drawn();
         uint32_t x = (uint32_t)bits % 0x42800001u | (uint32_t)(bits >> 63 << 31);
         uint32_t drive = (uint32_t)(bits >> 20) % 0x7f800000u | ((uint32_t)bits & SIGN);
-        check("hoofglaze_clip_hard", one_sample(hoofglaze_clip_hard, drive, x), clamped(drive, x), drive, x, 0);
-        uint32_t y = one_sample(hoofglaze_clip_triode, drive, x);
+        uint32_t y = one_sample(hoofglaze_clip_hard, drive, x);
+        check("hoofglaze_clip_hard", y, bytes32(hard(float_of(drive), float_of(x))), drive, x, 0);
+        y = one_sample(hoofglaze_clip_triode, drive, x);
+        check("hoofglaze_clip_triode", y, bytes32(triode(float_of(drive), float_of(x))), drive, x, 0);
         check("a triode's output is from -1 to 1", (y & ~SIGN) <= ONE, 1, drive, x, y);
     }
 }

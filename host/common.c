@@ -1,10 +1,9 @@
 /* Checks of the lone follower and the lone DC blocker: their layout, document 01's formulas bit for
  * bit, each NaN that a step writes, and what a refusal leaves. */
-#include <math.h>
 #include <stddef.h>
 
 #include "checks.h"
-#include "hoofglaze.h"
+#include "steps/common.h"
 
 #define SIGN 0x80000000u
 #define INFINITE 0x7f800000u
@@ -27,11 +26,6 @@ static uint32_t any(void)
     return i < SPECIAL ? special_bits(SIGN, INFINITE, i)
            : i < ODD   ? nan_bits(SIGN, INFINITE, i - SPECIAL)
                        : (uint32_t)drawn();
-}
-
-static uint32_t settled(float x)
-{
-    return x == x ? bytes32(x) : QUIET32;
 }
 
 static void layout(void)
@@ -125,26 +119,20 @@ static void makings(void)
     }
 }
 
-/* r is the size of x; c is the attack number if r > level, else the release number; new level =
- * fma(c, level, (1-c)*r) */
 static void check_follower_step(struct lone s, uint32_t x)
 {
-    float r = fabsf(float_of(x)), level = float_of(s.bits[2]);
-    float c = float_of(s.bits[r > level ? 0 : 1]);
-    uint32_t next = settled(fmaf(c, level, (1 - c) * r));
+    hoofglaze_follower f = follower_of(s);
+    uint32_t next = bytes32(followed(f.attack, f.release, f.level, float_of(x)));
     struct lone after = {{s.bits[0], s.bits[1], next}};
-    check_told("follower_step", told_follower(hoofglaze_follower_step(follower_of(s), float_of(x))), 0,
-               after, next);
+    check_told("follower_step", told_follower(hoofglaze_follower_step(f, float_of(x))), 0, after, next);
 }
 
-/* y = fma(c, y1, x - x1), then x1 = x, y1 = y */
 static void check_blocker_step(struct lone s, uint32_t x)
 {
-    float c = float_of(s.bits[0]), x1 = float_of(s.bits[1]), y1 = float_of(s.bits[2]);
-    uint32_t y = settled(fmaf(c, y1, float_of(x) - x1));
-    struct lone after = {{s.bits[0], settled(float_of(x)), y}};
-    check_told("blocker_step", told_blocker(hoofglaze_blocker_step(blocker_of(s), float_of(x))), 0,
-               after, y);
+    hoofglaze_blocker b = blocker_of(s);
+    uint32_t y = bytes32(blocked(b.c, b.x1, b.y1, float_of(x)));
+    struct lone after = {{s.bits[0], bytes32(settled(float_of(x))), y}};
+    check_told("blocker_step", told_blocker(hoofglaze_blocker_step(b, float_of(x))), 0, after, y);
 }
 
 /* Every NaN and special number in each register, and as the sample. */

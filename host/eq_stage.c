@@ -2,6 +2,7 @@
 #include <math.h>
 
 #include "eq.h"
+#include "steps/eq.h"
 
 /* ---- the numbers of a state */
 
@@ -82,20 +83,9 @@ static hoofglaze_answer block(void *state, const float *from, size_t n, float *t
 
 /* ---- document 01's step, and states to take it on */
 
-static double band_step(const hoofglaze_eq_numbers *w, hoofglaze_eq_delay *m, double x)
-{
-    double y = fma(w->b0, x, fma(w->b1, m->x1, w->b2 * m->x2)) - fma(w->a1, m->y1, w->a2 * m->y2);
-    *m = (hoofglaze_eq_delay){x, m->x1, y, m->y1};
-    return y;
-}
-
 static float step(void *state, float x)
 {
-    hoofglaze_eq *e = state;
-    double y = x;
-    for (int i = 0; i < BANDS; i++)
-        y = band_step(&e->settings.bands[i].numbers, &e->registers.bands[i], y);
-    return (float)y;
+    return eq_step(state, x);
 }
 
 static double unit(void)

@@ -1,8 +1,7 @@
 /* Checks of the noise gate's blocks: document 01's step bit for bit, by value and in place; every refusal
  * with the state and the buffer that it leaves; states that 9 refuses. */
-#include <math.h>
-
 #include "gate.h"
+#include "steps/gate.h"
 
 enum { BLOCKS = 60 };
 
@@ -117,37 +116,14 @@ static void bad_states(void)
     check_bad_gate(hoofglaze_gate_make(0, 0, 0).gate);
 }
 
-/* ---- document 01's step */
-
-static float smoothed(float c, float from, float to)
-{
-    return fmaf(c, from, (1 - c) * to);
-}
-
-/* Whether the gate aims open at x; *y is the output. */
-static int step(const hoofglaze_gate_settings *s, hoofglaze_gate_registers *m, float x, float *y)
-{
-    float r = fabsf(x);
-    m->level = smoothed(r > m->level ? s->rising : s->falling, m->level, r);
-    int loud = m->level > s->factor.factor;
-    if (loud)
-        m->counter = (uint64_t)((s->hold * 0.001f) * s->rate);
-    else if (m->counter > 0)
-        m->counter--;
-    int open = loud || m->counter > 0;
-    float target = open ? 1 : 0;
-    m->state = smoothed(target > m->state ? s->opening : s->closing, m->state, target);
-    float g = 1 / s->ratio;
-    *y = x * (m->state < 0.999f ? fmaf(1 - g, m->state, g) : 1);
-    return open;
-}
+/* ---- blocks that are done */
 
 static hoofglaze_gate check_block(hoofglaze_gate g, size_t samples)
 {
     hoofglaze_gate said = g;
     size_t count = 0, wrong = 0, nans = 0;
     for (size_t i = 0; i < samples; i++)
-        count += step(&said.settings, &said.registers, input[i], &expected[i]);
+        count += gate_step(&said.settings, &said.registers, input[i], &expected[i]);
     fill_output();
     hoofglaze_gate lying = g;
     hoofglaze_answer b = hoofglaze_gate_block_in_place(&lying, input, samples, output, samples);

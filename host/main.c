@@ -1,70 +1,17 @@
 /* The host program: every check, a line for each group, and the count of those that failed. Its argument
  * is the recording that the mission's case runs on. */
-#include <stdio.h>
-
 #include "checks.h"
 
-enum { SHOWN = 5 };
-
-static const char *name;
-static unsigned long checks, failed, checks_before, failed_before;
-
-static void close_group(void)
-{
-    if (name)
-        printf("%s: %lu checks, %lu failed\n", name, checks - checks_before, failed - failed_before);
-}
-
-void group(const char *next)
-{
-    close_group();
-    name = next;
-    checks_before = checks;
-    failed_before = failed;
-}
-
-void check(const char *call, uint64_t given, uint64_t expected, uint64_t a, uint64_t b, uint64_t c)
-{
-    checks++;
-    if (given == expected)
-        return;
-    failed++;
-    if (failed - failed_before <= SHOWN)
-        printf("  %s of %lx, %lx, %lx gives %lx, not %lx\n", call, a, b, c, given, expected);
-}
-
-uint64_t drawn(void)
-{
-    static uint64_t state = 0x9e3779b97f4a7c15;
-    state ^= state << 13;
-    state ^= state >> 7;
-    state ^= state << 17;
-    return state * 0x2545f4914f6cdd1d;
-}
-
-/* The lowest digit of the exponent: what a normal number's significand has above its fraction. */
-static uint64_t hidden(uint64_t infinity)
-{
-    return infinity & -infinity;
-}
-
-uint64_t special_bits(uint64_t sign, uint64_t infinity, int i)
-{
-    uint64_t one = infinity / 2 & infinity;
-    uint64_t sizes[SPECIAL / 2] = {0, 1, hidden(infinity) - 1, hidden(infinity), one, one + 1,
-                                   infinity - 1, infinity};
-    return sizes[i / 2] + (i % 2 ? sign : 0);
-}
-
-uint64_t nan_bits(uint64_t sign, uint64_t infinity, int i)
-{
-    uint64_t highest = hidden(infinity) / 2, digit = (uint64_t)1 << (i / 2 % 64);
-    uint64_t fraction = digit <= highest       ? digit
-                        : digit == highest * 2 ? highest * 2 - 1
-                        : digit == highest * 4 ? highest - 1
-                                               : drawn() % (hidden(infinity) - 1) + 1;
-    return (i % 2 ? sign : 0) + infinity + fraction;
-}
+/* One file has the checks of each part of the library. */
+void float_checks(void);
+void common_checks(void);
+void gate_checks(void);
+void clipper_checks(void);
+void eq_checks(void);
+void tonestack_checks(void);
+void saturator_checks(void);
+void layout_checks(void);
+void mission_checks(const char *recording);
 
 int main(int count, char **words)
 {
@@ -77,7 +24,5 @@ int main(int count, char **words)
     saturator_checks();
     layout_checks();
     mission_checks(count > 1 ? words[1] : "");
-    close_group();
-    printf("host: %lu checks, %lu failed\n", checks, failed);
-    return checks == 0 || failed != 0;
+    return !all_passed();
 }

@@ -4,7 +4,8 @@
 #include <stdio.h>
 
 #include "checks.h"
-#include "hoofglaze.h"
+#include "steps/common.h"
+#include "steps/worked.h"
 
 enum { RATE = 48000, MOST = 8 * RATE, SPANS = 8, BLOCK = 4096 };
 
@@ -30,11 +31,6 @@ static void read_recording(const char *path)
 
 /* ---- settings with their worked numbers */
 
-static float smoothing(double ms)
-{
-    return (float)exp(-1 / (RATE * 0.001 * ms));
-}
-
 static hoofglaze_gate done(hoofglaze_gate_answered a)
 {
     check("a setting is done", a.answer.number, 0, 0, 0, 0);
@@ -45,11 +41,11 @@ static hoofglaze_gate done(hoofglaze_gate_answered a)
 static hoofglaze_gate gate_at(float decibels)
 {
     hoofglaze_factor factor = {(float)pow(10, decibels / 20)};
-    hoofglaze_gate g = done(hoofglaze_gate_make(RATE, smoothing(0.1), smoothing(10)));
+    hoofglaze_gate g = done(hoofglaze_gate_make(RATE, smoothing(RATE, 0.1), smoothing(RATE, 10)));
     g = done(hoofglaze_gate_set_threshold(g, (hoofglaze_decibels){decibels}, factor));
     g = done(hoofglaze_gate_set_ratio(g, 10));
-    g = done(hoofglaze_gate_set_attack(g, 1, smoothing(1)));
-    g = done(hoofglaze_gate_set_release(g, 100, smoothing(100)));
+    g = done(hoofglaze_gate_set_attack(g, 1, smoothing(RATE, 1)));
+    g = done(hoofglaze_gate_set_release(g, 100, smoothing(RATE, 100)));
     return done(hoofglaze_gate_set_hold(g, 50));
 }
 
@@ -97,8 +93,7 @@ static struct passage expected(const hoofglaze_gate_settings *s)
     int latest = -1, hold = (int)((s->hold * 0.001f) * s->rate);
     float now = 0;
     for (int i = 0; i < samples; i++) {
-        float r = fabsf(recording[i]), c = r > now ? s->rising : s->falling;
-        now = fmaf(c, now, (1 - c) * r);
+        now = followed(s->rising, s->falling, now, recording[i]);
         check("level", bytes32(level[i]), bytes32(now), i, 0, 0);
         if (now > s->factor.factor)
             latest = i;

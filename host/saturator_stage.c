@@ -1,7 +1,6 @@
-/* The saturator as a stage: its numbers, its calls, the Rust's step, and states to take it on. */
-#include <math.h>
-
+/* The saturator as a stage: its numbers, its calls, document 01's step, and states to take it on. */
 #include "saturator.h"
+#include "steps/saturator.h"
 
 const struct range ranges[NAMED] = {
     {"low_drive", 0, 1}, {"mid_drive", 0, 1},  {"high_drive", 0, 1},  {"low_level", 0, 2},
@@ -85,58 +84,13 @@ static hoofglaze_answer block(void *state, const float *from, size_t n, float *t
     return keep(state, hoofglaze_saturator_block(*(hoofglaze_saturator *)state, from, n, to, m));
 }
 
-/* ---- the Rust's step */
-
-static float half(const hoofglaze_saturator_numbers *w, hoofglaze_saturator_half *m, float x)
-{
-    float inputs = fmaf(w->b2, m->x2, fmaf(w->b0, x, w->b1 * m->x1));
-    float y = fmaf(w->a2, -m->y2, fmaf(w->a1, -m->y1, inputs));
-    *m = (hoofglaze_saturator_half){x, m->x1, y, m->y1};
-    return y;
-}
-
-static float filter(const hoofglaze_saturator_numbers *w, hoofglaze_saturator_filter *m, float x)
-{
-    return half(w, &m->second, half(w, &m->first, x));
-}
-
-static float saturate(float x, float drive)
-{
-    x = x * fmaf(drive, 9, 1);
-    return x / (1 + fabsf(x));
-}
-
-static float band(const hoofglaze_saturator_settings *s, hoofglaze_saturator_band *m, float drive, float x)
-{
-    float r = fabsf(x), c = r > m->level ? s->attack : s->release;
-    m->level = fmaf(c, m->level, (1 - c) * r);
-    if (m->level > 0.0001f)
-        x = saturate(x / (1 + m->level), drive) * fmaf(m->level, 0.5f, 1);
-    else
-        x = saturate(x, drive);
-    float y = fmaf(s->blocker, m->y1, x - m->x1);
-    m->x1 = x;
-    m->y1 = y;
-    return y;
-}
+/* ---- document 01's step, and states to take it on */
 
 static float step(void *state, float x)
 {
-    const hoofglaze_saturator_settings *s = &((hoofglaze_saturator *)state)->settings;
-    hoofglaze_saturator_registers *m = &((hoofglaze_saturator *)state)->registers;
-    float low = filter(&s->low.lowpass, &m->low, x);
-    float side = filter(&s->low.highpass, &m->side, x);
-    float mid = filter(&s->high.lowpass, &m->mid, side);
-    float high = filter(&s->high.highpass, &m->high, side);
-    float first = filter(&s->high.lowpass, &m->lowpass, low);
-    low = first + filter(&s->high.highpass, &m->highpass, low);
-    low = band(s, &m->lows, s->drives.low, low);
-    mid = band(s, &m->mids, s->drives.mid, mid);
-    high = band(s, &m->highs, s->drives.high, high);
-    return (low * s->levels.low + mid * s->levels.mid) + high * s->levels.high;
+    hoofglaze_saturator *s = state;
+    return saturator_step(&s->settings, &s->registers, x);
 }
-
-/* ---- states */
 
 /* Two poles inside the circle. */
 static hoofglaze_saturator_numbers drawn_filter(void)

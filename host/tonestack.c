@@ -1,14 +1,12 @@
 /* Checks of the tone stack: its layout, making each model, controls by name and typed, each refusal with
  * what it leaves, blocks bit for bit and the NaNs of registers. */
-#include <math.h>
-
 #include "stage.h"
+#include "steps/tone.h"
 
 enum { MODELS = 4, CONTROLS = 4, REGISTERS = 4 };
 
 /* The places of a state's numbers, the registers behind them. */
 enum { RATE, MODEL, CONTROL, FACTOR = CONTROL + CONTROLS, SETTINGS };
-
 
 static const char *const names[CONTROLS] = {"bass", "mid", "treble", "presence"};
 
@@ -101,42 +99,12 @@ static hoofglaze_answer block(void *state, const float *from, size_t n, float *t
     return keep(state, hoofglaze_tone_block(*(hoofglaze_tone *)state, from, n, to, m));
 }
 
-/* ---- the Rust's step, and states to take it on */
-
-static float alpha(float rate, float corner)
-{
-    float dt = 1 / rate;
-    return dt / (dt + 1 / (2 * 3.14159274f * corner));
-}
-
-static float at_least(float gain)
-{
-    return gain > 0.001f ? gain : 0.001f;
-}
-
-static float toward(float alpha, float from, float to)
-{
-    return fmaf(alpha, to - from, from);
-}
+/* ---- document 01's step, and states to take it on */
 
 static float step(void *state, float x)
 {
-    static const float corners[MODELS][3] = {
-        {120, 2200, 6000}, {100, 2000, 5000}, {80, 1800, 4000}, {100, 2000, 5000}};
-    static const float last[MODELS] = {0.95f, 1.05f, 0.97f, 1};
     hoofglaze_tone *t = state;
-    const hoofglaze_tone_settings *s = &t->settings;
-    hoofglaze_tone_registers *m = &t->registers;
-    const float *corner = corners[s->model];
-    m->dc = m->dc + alpha(s->rate, 20) * (x - m->dc);
-    x = x - m->dc;
-    m->bass = toward(alpha(s->rate, corner[0]), m->bass, x);
-    m->treble = toward(alpha(s->rate, corner[1]), m->treble, x);
-    float mid = (m->treble - m->bass) * at_least(s->mid);
-    float y = fmaf(x - m->treble, at_least(s->treble), fmaf(m->bass, at_least(s->bass), mid));
-    m->presence = toward(alpha(s->rate, corner[2]), m->presence, y);
-    y = fmaf(y - m->presence, s->factor.factor, m->presence);
-    return (s->model == 3 ? y : y * last[s->model]) * 0.7f;
+    return tone_step(&t->settings, alphas(&t->settings), &t->registers, x);
 }
 
 static void draw(void *state)

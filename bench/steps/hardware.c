@@ -2,4 +2,4 @@
 #define fma32 __builtin_fmaf
 #define fma64 __builtin_fma
 #define OFFER hardware
-#include "steps.h"
+#include "blocks.h"

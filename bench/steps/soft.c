@@ -4,4 +4,4 @@
 #define fma32 rendered_fma32
 #define fma64 rendered_fma64
 #define OFFER soft
-#include "steps.h"
+#include "blocks.h"

@@ -1,6 +1,11 @@
 /* What C's <stdio.h> has that this project uses, for a compiler that comes without C's headers. */
-int printf(const char *format, ...);
 typedef struct _IO_FILE FILE;
+extern FILE *stdin, *stdout, *stderr;
+int printf(const char *format, ...);
+int fprintf(FILE *to, const char *format, ...);
 FILE *fopen(const char *path, const char *mode);
 __SIZE_TYPE__ fread(void *to, __SIZE_TYPE__ size, __SIZE_TYPE__ count, FILE *from);
+__SIZE_TYPE__ fwrite(const void *from, __SIZE_TYPE__ size, __SIZE_TYPE__ count, FILE *to);
+int ferror(FILE *file);
+int fflush(FILE *file);
 int fclose(FILE *file);

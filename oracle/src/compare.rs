@@ -1,4 +1,4 @@
-//! Compares a replay program with the oracle on new lists.
+//! Compares a replay with the oracle on new lists.
 use crate::{
     random::Random,
     replay::{Counts, Replay},

@@ -1,7 +1,7 @@
 //! The oracle: what the stages answer, from the Rust as it stands and from document 01.
 //!
-//! Each stage that has a replay program has a module here, with a model written from document 01, the
-//! Rust stage with worked numbers lent, and a generator of call lists; [`replay::named`] finds it.
+//! Each stage that has lists has a module here, with a model written from document 01, the Rust stage with
+//! worked numbers lent, and a generator of call lists; [`stages::named`] finds it.
 pub mod bits;
 pub mod calls;
 pub mod clipper;
@@ -20,4 +20,5 @@ pub mod replay;
 pub mod saturator;
 pub mod shapes;
 pub mod signals;
+pub mod stages;
 pub mod tonestack;

@@ -1,10 +1,5 @@
-//! The oracle's commands. Lists and answers are the bytes of a replay program's standard input and
-//! output.
-use oracle::{
-    compare::compare,
-    random::Random,
-    replay::{self, Replay},
-};
+//! The oracle's commands. Lists and answers are the bytes that a replay reads and writes.
+use oracle::{compare::compare, random::Random, replay::Replay, stages};
 use std::{
     io::{self, Read, Write},
     process::ExitCode,
@@ -15,7 +10,7 @@ const USAGE: &str = "\
 oracle make STAGE                          writes the list that is stored
 oracle answer STAGE                        reads a list and writes the answers
 oracle generate STAGE SEED CASES           writes a new list, of CASES of each kind
-oracle compare STAGE SEED CASES PROGRAM..  compares a replay program on new lists";
+oracle compare STAGE SEED CASES PROGRAM..  compares a replay on new lists";
 
 fn main() -> ExitCode {
     let words: Vec<String> = std::env::args().skip(1).collect();
@@ -58,7 +53,7 @@ fn report(stage: &str, seed: u64, cases: u64, program: &[&str]) -> Result<(), St
 }
 
 fn named(stage: &str) -> Result<&'static dyn Replay, String> {
-    replay::named(stage).ok_or(format!("no stage {stage}"))
+    stages::named(stage).ok_or(format!("no stage {stage}"))
 }
 
 fn number(word: &str) -> Result<u64, String> {

@@ -1,13 +1,10 @@
-//! What the oracle has for each replay program: a list of calls, the bytes of its standard input, and
-//! the answers to a list, the bytes of its standard output.
-use crate::{
-    clipper::Clipper, common::Common, eq::Eq, float::Float, gate::NoiseGate, program::Program,
-    random::Random, saturator::MultibandSaturator, tonestack::ToneStack,
-};
+//! What the oracle has for each stage: a list of calls, the bytes that a program reads, and the answers to
+//! a list, the bytes that it writes.
+use crate::random::Random;
 use std::collections::BTreeMap;
 
 pub trait Replay: Sync {
-    /// The list that the replay's crate keeps as `stdin`.
+    /// The list that is kept.
     fn stored(&self) -> Vec<u8>;
 
     /// A new list, of `cases` of each kind that the stage has.
@@ -45,20 +42,5 @@ pub const fn answered(number: u32) -> &'static str {
         8 => "answered 8",
         9 => "answered 9",
         _ => "answered by all ones",
-    }
-}
-
-/// The stages that have a replay program, by name: `crates/NAME_replay`; that of `program` is `crates/gate`.
-pub fn named(name: &str) -> Option<&'static dyn Replay> {
-    match name {
-        "float" => Some(&Float),
-        "common" => Some(&Common),
-        "clipper" => Some(&Clipper),
-        "noise_gate" => Some(&NoiseGate),
-        "eq" => Some(&Eq::NEW),
-        "tonestack" => Some(&ToneStack::NEW),
-        "multiband_saturator" => Some(&MultibandSaturator::NEW),
-        "program" => Some(&Program),
-        _ => None,
     }
 }

@@ -1,7 +1,7 @@
 //! Samples that a block takes, by what they try on a stage. What is loud to it is a size that they lie
 //! around: of a gate, its threshold's factor.
 use crate::{
-    limits::LARGEST_SAMPLE,
+    limits::{LARGEST_SAMPLE, LONGEST_BLOCK},
     numbers::{above, below},
     random::Random,
 };
@@ -22,6 +22,15 @@ const SIGNALS: [Signal; 8] = [
 /// So many samples that a block takes, of a kind drawn at random.
 pub fn drawn(loud: f32, length: usize, random: &mut Random) -> Vec<f32> {
     random.pick(&SIGNALS)(loud, length, random)
+}
+
+/// A block's length: mostly short, so that much happens between blocks.
+pub fn length(random: &mut Random) -> usize {
+    match random.below(64) {
+        0 => random.pick(&[0, 1, 2, LONGEST_BLOCK - 1, LONGEST_BLOCK]),
+        1..4 => random.below(LONGEST_BLOCK as u64) as usize,
+        _ => random.below(500) as usize,
+    }
 }
 
 /// From -1 to 1.

@@ -3,4 +3,6 @@ pub mod Figures
 pub mod Refusals
 pub mod Told
 pub mod Checks
+pub mod Blocks
+pub mod Crossing
 pub mod Names

@@ -8,8 +8,10 @@ use lib.Ieee.{Float}
 use Rattle.answer.specs.Figures.{nought}
 use Rattle.answer.specs.Refusals as Refusals
 use Rattle.answer.specs.declared.Refusal.{Refusal}
-use Rattle.answer.specs.declared.Check.{Check}
-use Rattle.answer.specs.declared.Check.the-variants.{Accepted, Refused}
+use Rattle.answer.specs.declared.Answer.{Answer}
+use Rattle.answer.specs.declared.Answer.the-variants as answer
+use Rattle.answer.specs.declared.Reading.{Reading}
+use Rattle.answer.specs.declared.Reading.the-variants as reading
 
 -- the state after the call, the answer's number, its place, the count of samples aimed open, and the value read or stepped
 pub record Told (S : Type 0) : Type 0 where
@@ -30,14 +32,19 @@ module _ {S : Type 0} (s : S) where
   abbrev pub done : Told S
   done = doneWith 0 nought
 
+  -- what an answer tells, s being the state after the call: of making, setting, reset, and of a block but the gate's
+  abbrev pub told : Answer → Told S
+  told answer.Done = done
+  told (answer.Refused r) = refused r
+
+  -- of reading, and of a lone step
+  abbrev pub toldRead : Reading → Told S
+  toldRead (reading.Done value) = doneWith 0 value
+  toldRead (reading.Refused r) = refused r
+
 -- a test, the answer where it fails, and what is done where it holds
 abbrev pub unless : {A : Type 0} → Bool → A → A → A
 unless test otherwise rest = cond test rest otherwise
-
--- what a check refuses, and what is done where it accepts
-abbrev pub passing : {S : Type 0} → S → Check → Told S → Told S
-passing s Accepted rest = rest
-passing s (Refused r) rest = refused s r
 
 -- a where the call was done, b where it was refused
 abbrev pub whereDone : {S A : Type 0} → Told S → A → A → A

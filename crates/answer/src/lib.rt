@@ -1,4 +1,10 @@
 // What every stage answers and checks: refusals by document 01's numbers, and the tests behind them.
+mod crossing;
+
+pub use crossing::of_answer;
+pub use crossing::of_done;
+pub use crossing::of_reading;
+pub use crossing::of_refusal;
 ghost use mathlib.Core.Bool.{_&&_};
 ghost use mathlib.Core.Path.{_≡_};
 ghost use lib.Dec.{eqb, leb};
@@ -26,6 +32,28 @@ pub struct Decibels(pub f32);
 
 #[repr(C)]
 pub struct Factor(pub f32);
+
+// What making, setting and reset answer, and a block where it has no more to say.
+pub enum Answer {
+    Done,
+    Refused(Refusal),
+}
+
+// What reading answers, and a lone step: a value.
+pub enum Reading {
+    Done(f32),
+    Refused(Refusal),
+}
+
+// An answer as it crosses to a host: document 01's number, the value read or stepped, the place of the
+// first sample that is refused, and the count of samples aimed open; each +0 or 0 where the call has none.
+#[repr(C)]
+pub struct Numbered {
+    pub number: u32,
+    pub value: f32,
+    pub place: usize,
+    pub count: usize,
+}
 
 // What the checks of a block find.
 pub enum Check {

@@ -6,6 +6,20 @@ ghost use lib.Ieee.{binary32, binary64, ofBits, toBits};
 ghost use lib.Ieee.Nearest.{closest};
 ghost use Rattle.rounding.specs.Steps as Steps;
 
+// The two infinities' patterns without their sign: a NaN's lies above.
+const INFINITY32: u32 = 0x7f80_0000;
+
+const INFINITY64: u64 = 0x7ff0_0000_0000_0000;
+
+const SIGN32: u32 = 0x8000_0000;
+
+const SIGN64: u64 = 0x8000_0000_0000_0000;
+
+// The one NaN of each width that is returned.
+const NAN32: u32 = 0x7fc0_0000;
+
+const NAN64: u64 = 0x7ff8_0000_0000_0000;
+
 // x, and any NaN as 7FC00000.
 pub fn settled32(x: f32) -> f32
     ensures { λ r. ⌜ r ≡ x ⌝ }
@@ -23,23 +37,19 @@ pub fn settled64(x: f64) -> f64
 pub fn bits32(x: f32) -> u32
     ensures { λ r. ⌜ r ≡ toBits binary32 x ⌝ }
 {
-    if x != x { 0x7fc0_0000 } else { f32::to_bits(x) }
+    if x != x { NAN32 } else { f32::to_bits(x) }
 }
 
 pub fn bits64(x: f64) -> u64
     ensures { λ r. ⌜ r ≡ toBits binary64 x ⌝ }
 {
-    if x != x {
-        0x7ff8_0000_0000_0000
-    } else {
-        f64::to_bits(x)
-    }
+    if x != x { NAN64 } else { f64::to_bits(x) }
 }
 
 pub fn from_bits32(n: u32) -> f32
     ensures { λ r. ⌜ r ≡ ofBits binary32 n ⌝ }
 {
-    if 0x7f80_0000 < n % 0x8000_0000 {
+    if INFINITY32 < n % SIGN32 {
         0.0 / 0.0
     } else {
         f32::from_bits(n)
@@ -49,7 +59,7 @@ pub fn from_bits32(n: u32) -> f32
 pub fn from_bits64(n: u64) -> f64
     ensures { λ r. ⌜ r ≡ ofBits binary64 n ⌝ }
 {
-    if 0x7ff0_0000_0000_0000 < n % 0x8000_0000_0000_0000 {
+    if INFINITY64 < n % SIGN64 {
         0.0 / 0.0
     } else {
         f64::from_bits(n)
@@ -118,13 +128,16 @@ pub fn sticky(x: u64, s: u64) -> u64
     q + (1 - q % 2)
 }
 
-// The same where i is 64 or more, so that less than 1 is left.
+// 2 ^ 64 / 2
+const HALF: u64 = 0x8000_0000_0000_0000;
+
+// n / 2 ^ i to the nearest where i is 64 or more, so that less than 1 is left. Half of 2 ^ 64 is a tie, and goes to 0.
 fn nearest_far(n: u64, i: u64) -> u64
     requires { ⌜ 63 < i ⌝ }
     ensures { λ r. ⌜ r ≡ closest n (2 ^ i) ⌝ }
 {
     if i == 64 {
-        if 0x8000_0000_0000_0000 < n {
+        if HALF < n {
             return 1;
         }
     }

@@ -4,9 +4,9 @@ use mathlib.Core.Path.{_≡_, refl, ap}
 use mathlib.Core.List.{List, [], _∷_}
 use lib.Ieee.{Float}
 use Rattle.fold.specs.Fold.{outAfter}
-use Rattle.clipper_sample.specs.Process.{process}
+use Rattle.clipper.specs.Process.{process}
 use Rattle.clipper.specs.Block.{processed}
-use Rattle.clipper_sample.specs.declared.Kind.{Kind}
+use Rattle.clipper.specs.declared.Kind.{Kind}
 
 abbrev pub stays : Kind → Float → Kind
 stays kind x = kind

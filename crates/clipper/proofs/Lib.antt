@@ -1,4 +1,4 @@
--- What holds of a block beyond the equations of the functions.
+-- The table's rule; a block without a state.
+pub mod Entries
+pub mod Rule
 pub mod Each
-pub mod Answers
-pub mod Done

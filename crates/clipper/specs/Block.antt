@@ -9,8 +9,8 @@ use Rattle.answer.specs.Figures.{longestBlock}
 use Rattle.answer.specs.Checks.{firstRefused}
 use Rattle.answer.specs.Told.{Told, refused, done, unless}
 use Rattle.answer.specs.declared.Refusal.the-variants.{OutOfRange, BadSample, LengthsDiffer, TooLong}
-use Rattle.clipper_sample.specs.Process.{process}
-use Rattle.clipper_sample.specs.declared.Kind.{Kind}
+use Rattle.clipper.specs.Process.{process}
+use Rattle.clipper.specs.declared.Kind.{Kind}
 
 unfoldable pub processed : Kind → Float → List Float → List Float
 processed kind drive input = map (λ x. process kind x drive) input

@@ -1,3 +1,4 @@
--- A block of the clipper.
-pub mod Answers
+-- The clipper: the triode's table, one sample, a block.
+pub mod Table
+pub mod Process
 pub mod Block

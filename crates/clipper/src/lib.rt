@@ -1,16 +1,18 @@
-// The clipper, hard and triode: a block with a kind and a drive, and one sample. It keeps no state.
+// The clipper, hard and triode: a block with a kind and a drive. It keeps no state.
+mod sample;
+mod table;
+mod triode;
+
+use answer::Answer;
 use answer::Refusal;
-pub use clipper_sample::Kind;
-pub use clipper_sample::entry;
-pub use clipper_sample::process;
 ghost use mathlib.Core.Path.{_≡_};
 ghost use lib.ListN.{length};
-ghost use Rattle.clipper.specs.Answers.{told};
+ghost use Rattle.answer.specs.Told.{told};
 ghost use Rattle.clipper.specs.Block as blocks;
 
-pub enum Answer {
-    Done,
-    Refused(Refusal),
+pub enum Kind {
+    Hard,
+    Triode,
 }
 
 // A block: the product of each sample and the drive, then clamp or table.
@@ -40,7 +42,7 @@ fn process_all(kind: Kind, drive: f32, input: &[f32], output: &mut [f32])
 {
     let mut i: usize = 0;
     while i < input.len() {
-        output[i] = process(kind, input[i], drive);
+        output[i] = sample::process(kind, input[i], drive);
         i += 1;
     }
 }

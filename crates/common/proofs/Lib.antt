@@ -1,4 +1,3 @@
--- What holds of the follower, the blocker and their answers, beyond the equations of the functions.
-pub mod Answers
-pub mod Refusals
+-- What holds of the follower's level, and of a lookup in a table, beyond the equations of the functions.
 pub mod Level
+pub mod Lookup

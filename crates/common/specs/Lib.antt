@@ -1,4 +1,4 @@
--- The follower and the DC blocker.
-pub mod Answers
+-- The follower and the DC blocker; document 01's frequencies.
 pub mod Follower
 pub mod Blocker
+pub mod Frequencies

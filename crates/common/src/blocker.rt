@@ -1,9 +1,9 @@
 // The DC blocker.
-use crate::Answer;
-use crate::Output;
+use answer::Answer;
+use answer::Reading;
 use answer::Refusal;
 ghost use mathlib.Core.Path.{_≡_};
-ghost use Rattle.common.specs.Answers.{told, toldStep};
+ghost use Rattle.answer.specs.Told.{told, toldRead};
 ghost use Rattle.common.specs.Blocker as blocker;
 
 #[repr(C)]
@@ -20,7 +20,7 @@ pub struct Answered {
 
 pub struct Stepped {
     pub blocker: Blocker,
-    pub output: Output,
+    pub output: Reading,
 }
 
 // The blocker after a sample x, for any bits. Its y1 is the output.
@@ -60,18 +60,18 @@ pub fn make(c: f32) -> Answered
 }
 
 pub fn step(b: Blocker, x: f32) -> Stepped
-    ensures { λ r. ⌜ toldStep (r .blocker) (r .output) ≡ blocker.step b x ⌝ }
+    ensures { λ r. ⌜ toldRead (r .blocker) (r .output) ≡ blocker.step b x ⌝ }
 {
     if answer::is_smoothing(b.c) {
         let next = blocked(b, x);
         Stepped {
             blocker: next,
-            output: Output::Done(next.y1),
+            output: Reading::Done(next.y1),
         }
     } else {
         Stepped {
             blocker: b,
-            output: Output::Refused(Refusal::BadState),
+            output: Reading::Refused(Refusal::BadState),
         }
     }
 }

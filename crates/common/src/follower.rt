@@ -1,10 +1,10 @@
 // The follower of a signal's level.
-use crate::Answer;
-use crate::Output;
 use crate::toward;
+use answer::Answer;
+use answer::Reading;
 use answer::Refusal;
 ghost use mathlib.Core.Path.{_≡_};
-ghost use Rattle.common.specs.Answers.{told, toldStep};
+ghost use Rattle.answer.specs.Told.{told, toldRead};
 ghost use Rattle.common.specs.Follower as follower;
 
 #[repr(C)]
@@ -21,7 +21,7 @@ pub struct Answered {
 
 pub struct Stepped {
     pub follower: Follower,
-    pub output: Output,
+    pub output: Reading,
 }
 
 // The level after a sample x, for any bits.
@@ -40,11 +40,7 @@ pub fn followed(attack: f32, release: f32, level: f32, x: f32) -> f32
 fn acceptable(attack: f32, release: f32) -> bool
     ensures { λ r. ⌜ r ≡ follower.acceptable attack release ⌝ }
 {
-    if answer::is_smoothing(attack) {
-        answer::is_smoothing(release)
-    } else {
-        false
-    }
+    answer::both(answer::is_smoothing(attack), answer::is_smoothing(release))
 }
 
 pub fn make(attack: f32, release: f32) -> Answered
@@ -72,7 +68,7 @@ pub fn make(attack: f32, release: f32) -> Answered
 }
 
 pub fn step(f: Follower, x: f32) -> Stepped
-    ensures { λ r. ⌜ toldStep (r .follower) (r .output) ≡ follower.step f x ⌝ }
+    ensures { λ r. ⌜ toldRead (r .follower) (r .output) ≡ follower.step f x ⌝ }
 {
     if acceptable(f.attack, f.release) {
         let level = followed(f.attack, f.release, f.level, x);
@@ -80,12 +76,12 @@ pub fn step(f: Follower, x: f32) -> Stepped
         next.level = level;
         Stepped {
             follower: next,
-            output: Output::Done(level),
+            output: Reading::Done(level),
         }
     } else {
         Stepped {
             follower: f,
-            output: Output::Refused(Refusal::BadState),
+            output: Reading::Refused(Refusal::BadState),
         }
     }
 }

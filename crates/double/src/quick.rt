@@ -1,5 +1,7 @@
 // a * b + c for normal `f64` whose two terms, whole, have two digits of base 2 ^ 64: one product, one
 // sum, one normalisation.
+use crate::FRACTION;
+use crate::SIGN;
 use crate::long;
 ghost use mathlib.Core.Path.{_≡_};
 ghost use mathlib.Core.Bool.{cond};
@@ -9,16 +11,28 @@ ghost use lib.Ieee.Nearest.{closest};
 ghost use Rattle.rounding.specs.Steps.{Near};
 ghost use Rattle.rounding.specs.Fma.{fma};
 
-const SIGN: u64 = 0x8000_0000_0000_0000;
-
 // The weight of a significand's leading digit.
 const HIDDEN: u64 = 0x10_0000_0000_0000;
+
+// Of 63 digits 53 are kept. What is added before the rest is cut off is one less than half of it.
+const SPARE: u64 = 10;
+
+const UNDER_HALF: u64 = 0x1ff;
+
+// The x at which the last digit kept has the smallest value's weight, where `top` moves nothing.
+const LAST_PLACE: u64 = 1002;
+
+// A significand at the left end of a word has 11 zeros behind it; at its highest, 72 places up, it
+// stands there moved by all but 3 of a word's 64.
+const ZEROS: u64 = 11;
+
+const HIGHEST: u64 = 3;
 
 // The value of a sign and of a bit pattern without it. `double_general` has this step too: a bound is asked of its
 // caller, and no function that another crate calls asks for one.
 fn signed(s: bool, b: u64) -> f64
-    requires { ⌜ b ≤ 9218868437227405312 ⌝ }
-    ensures { λ r. ⌜ r ≡ ofBits binary64 (cond s 9223372036854775808 0 + b) ⌝ }
+    requires { ⌜ b ≤ 0x7ff0_0000_0000_0000 ⌝ }
+    ensures { λ r. ⌜ r ≡ ofBits binary64 (cond s 0x8000_0000_0000_0000 0 + b) ⌝ }
 {
     if s {
         return f64::from_bits(SIGN + b);
@@ -31,10 +45,11 @@ fn kept(m: u64) -> u64
     requires { ⌜ m < 2 ^ 63 ⌝ }
     ensures { λ r. ⌜ r ≡ closest m (2 ^ 10) ⌝ }
 {
-    (m + 0x1ff + (m >> 10) % 2) >> 10
+    (m + UNDER_HALF + (m >> SPARE) % 2) >> SPARE
 }
 
-// ±(hi * 2 ^ 64 + lo) * 2 ^ (x - 2) units of 2 ^ -2148, rounded, where that is a normal value.
+// ±(hi * 2 ^ 64 + lo) * 2 ^ (x - 2) units of 2 ^ -2148, rounded, where that is a normal value: x is 63
+// to 2046 above LAST_PLACE.
 fn normal(s: bool, hi: u64, lo: u64, x: u64) -> f64
     requires { ⌜ 0 < hi ⌝ }
     requires { ⌜ hi < 2 ^ 62 ⌝ }
@@ -43,7 +58,7 @@ fn normal(s: bool, hi: u64, lo: u64, x: u64) -> f64
     ensures { λ r. ⌜ r ≡ round binary64 s ((hi * 2 ^ 64 + lo) * 2 ^ (x - 2)) (2 ^ 2148) ⌝ }
 {
     let g = long::top(hi, lo);
-    signed(s, (x - 1002 - g.k << 52) + kept(g.m))
+    signed(s, (x - LAST_PLACE - g.k << FRACTION) + kept(g.m))
 }
 
 // The sum of the terms (ph * 2 ^ 64 + pl) * 2 ^ (x - 2) and (vh * 2 ^ 64 + vl) * 2 ^ (x - 2) with
@@ -96,9 +111,9 @@ pub fn close(a: f64, b: f64, c: f64, i: u64, j: u64, k: u64, d: u64) -> f64
     requires { ⌜ fma binary64 a b c ≡ fma binary64 (ofBits binary64 i) (ofBits binary64 j) (ofBits binary64 k) ⌝ }
     ensures { λ r. ⌜ r ≡ fma binary64 a b c ⌝ }
 {
-    let x = (i % SIGN >> 52) + (j % SIGN >> 52);
+    let x = (i % SIGN >> FRACTION) + (j % SIGN >> FRACTION);
     let p = long::times(HIDDEN + i % HIDDEN, HIDDEN + j % HIDDEN);
-    let v = long::placed(SIGN + (k << 11) % SIGN, d + 3);
+    let v = long::placed(SIGN + (k << ZEROS) % SIGN, d + HIGHEST);
     let s = (SIGN <= i) != (SIGN <= j);
     joined(a, b, c, s, SIGN <= k, p.hi, p.lo, v.hi, v.lo, x)
 }

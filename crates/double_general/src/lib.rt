@@ -15,18 +15,36 @@ const INFINITY: u64 = 0x7ff0_0000_0000_0000;
 
 const SIGN: u64 = 0x8000_0000_0000_0000;
 
+// Digits of a pattern below its exponent.
+const FRACTION: u64 = 52;
+
+// Of 63 digits 53 are kept.
+const SPARE: u64 = 10;
+
+// The smallest value is 2 ^ 1092 units of 2 ^ -2166. From the exponent 1082 on, 10 below it, the
+// digits to spare are all that is cut off.
+const SMALLEST: u64 = 1092;
+
+const NORMAL: u64 = 1082;
+
+// How far a significand of 53 digits is moved to have 62.
+const UP: u64 = 9;
+
+// The third term's exponent beside the product's: 1074 for its unit, 71 less and 18 more.
+const THIRD: u64 = 1021;
+
 // Neither a NaN nor an infinity.
 fn finite(x: f64) -> bool
     ensures { λ r. ⌜ r ≡ Scale.finite x ⌝ }
 {
-    let inf = f64::from_bits(0x7ff0_0000_0000_0000);
+    let inf = f64::from_bits(INFINITY);
     x < inf && -inf < x
 }
 
 // The value of a sign and of a bit pattern without it.
 fn signed(s: bool, b: u64) -> f64
-    requires { ⌜ b ≤ 9218868437227405312 ⌝ }
-    ensures { λ r. ⌜ r ≡ ofBits binary64 (cond s 9223372036854775808 0 + b) ⌝ }
+    requires { ⌜ b ≤ 0x7ff0_0000_0000_0000 ⌝ }
+    ensures { λ r. ⌜ r ≡ ofBits binary64 (cond s 0x8000_0000_0000_0000 0 + b) ⌝ }
 {
     if s {
         return f64::from_bits(SIGN + b);
@@ -49,11 +67,11 @@ fn made(s: bool, hi: u64, lo: u64, e: u64) -> f64
     }
     let g = wide::top(hi, lo, e);
     let k = g.k;
-    if 1082 <= k {
-        let kept = bits::nearest(g.m, 10);
-        return signed(s, bits::least((k - 1082 << 52) + kept, INFINITY));
+    if NORMAL <= k {
+        let kept = bits::nearest(g.m, SPARE);
+        return signed(s, bits::least((k - NORMAL << FRACTION) + kept, INFINITY));
     }
-    signed(s, bits::least(bits::nearest(g.m, 1092 - k), INFINITY))
+    signed(s, bits::least(bits::nearest(g.m, SMALLEST - k), INFINITY))
 }
 
 // The two terms, the one with the smaller exponent moved to the other's.
@@ -76,18 +94,18 @@ fn aligned(m: u64, n: u64, x: u64, q: u64, y: u64) -> Terms
     ensures { λ r. ⌜ r .vl < 2 ^ 62 ⌝ }
     ensures { λ r. ⌜ r .e ≡ max x y ⌝ }
 {
-    let p = wide::times(m << 9, n << 9);
+    let p = wide::times(m << UP, n << UP);
     if x < y {
         let w = wide::sticky(p.hi, p.lo, y - x);
         return Terms {
             uh: w.hi,
             ul: w.lo,
-            vh: q << 9,
+            vh: q << UP,
             vl: 0,
             e: y,
         };
     }
-    let w = wide::sticky(q << 9, 0, x - y);
+    let w = wide::sticky(q << UP, 0, x - y);
     Terms {
         uh: p.hi,
         ul: p.lo,
@@ -128,11 +146,11 @@ fn of_patterns(a: u64, b: u64, c: u64) -> f64
     requires { ⌜ T (Scale.finite (ofBits binary64 c)) ⌝ }
     ensures { λ r. ⌜ r ≡ fma binary64 (ofBits binary64 a) (ofBits binary64 b) (ofBits binary64 c) ⌝ }
 {
-    let x = bits::part_of(a % SIGN, 52);
-    let y = bits::part_of(b % SIGN, 52);
-    let z = bits::part_of(c % SIGN, 52);
+    let x = bits::part_of(a % SIGN, FRACTION);
+    let y = bits::part_of(b % SIGN, FRACTION);
+    let z = bits::part_of(c % SIGN, FRACTION);
     let e = bits::exponent_of(x.m, y.m, x.k + y.k);
-    let w = aligned(x.m, y.m, e, z.m, z.k + 1021);
+    let w = aligned(x.m, y.m, e, z.m, z.k + THIRD);
     let s = (SIGN <= a) != (SIGN <= b);
     total(s, SIGN <= c, w.uh, w.ul, w.vh, w.vl, w.e)
 }

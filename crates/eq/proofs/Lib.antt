@@ -1,8 +1,4 @@
--- A block's samples through buffers; a band of sixteen; what the calls keep, and what they tell.
+-- A block's samples through buffers; a band of sixteen.
 pub mod Each
 pub mod Ran
 pub mod OneBand
-pub mod Answers
-pub mod Refusals
-pub mod Kept
-pub mod Accepted

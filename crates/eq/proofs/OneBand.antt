@@ -8,10 +8,10 @@ use mathlib.Core.List.{List, [], _∷_}
 use lib.ListN.{length, getD, set}
 use Rattle.answer.specs.Figures.{one}
 use Rattle.answer.specs.declared.Decibels.{Decibels}
-use Rattle.eq_settings.specs.Bands.{taken, clears}
-use Rattle.eq_settings.specs.declared.Numbers.{Numbers}
-use Rattle.eq_settings.specs.declared.Band.{Band}
-use Rattle.eq_sample.specs.declared.Delay.{Delay}
+use Rattle.eq_bands.specs.Bands.{taken, clears}
+use Rattle.eq_bands.specs.declared.Numbers.{Numbers}
+use Rattle.eq_bands.specs.declared.Band.{Band}
+use Rattle.eq_bands.specs.declared.Delay.{Delay}
 use Rattle.eq.specs.declared.Equaliser.{Equaliser}
 use Rattle.eq.specs.States.{noDelay, bandWith, bandAt, delayAt, valueAt, withBand}
 

@@ -7,9 +7,9 @@ use mathlib.Core.List.{List, map}
 use lib.ListN.{length, take, length-take}
 use lib.Ieee.{Float}
 use Rattle.rounding.specs.Casts.{narrow}
-use Rattle.eq_settings.specs.declared.Settings.{Settings}
-use Rattle.eq_sample.specs.Row as Row
-use Rattle.eq_sample.specs.declared.Registers.{Registers}
+use Rattle.eq_bands.specs.declared.Settings.{Settings}
+use Rattle.eq_bands.specs.Row as Row
+use Rattle.eq_bands.specs.declared.Registers.{Registers}
 use Rattle.eq.specs.Calls.{after, outputs}
 use Rattle.eq.proofs.Each.{seen-through}
 

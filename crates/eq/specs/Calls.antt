@@ -3,25 +3,23 @@
 use Prim.Native.Nat.{ℕ}
 use mathlib.Core.List.{List}
 use lib.Dec.{ltb}
-use lib.ListN.{length}
 use lib.Ieee.{Float}
-use Rattle.answer.specs.Checks.{isRate, checkBlock}
+use Rattle.answer.specs.Checks.{isRate}
 use Rattle.answer.specs.Told.{Told, refused, done, doneWith, unless}
+use Rattle.answer.specs.Blocks.{checkedBlock}
 use Rattle.answer.specs.declared.Decibels.{Decibels}
-use Rattle.answer.specs.declared.Check.{Check}
-use Rattle.answer.specs.declared.Check.the-variants.{Accepted, Refused}
 use Rattle.answer.specs.declared.Refusal.the-variants.{NoSetting, NoBand, OutOfRange, BadWorkedNumber, BadRate, BadState}
 use Rattle.fold.specs.Fold.{stateAfter, outAfter}
-use Rattle.eq_settings.specs.Bands.{inItsRange, worked}
-use Rattle.eq_settings.specs.Names.{indexOf, named}
-use Rattle.eq_settings.specs.declared.Numbers.{Numbers}
-use Rattle.eq_settings.specs.declared.Settings.{Settings}
-use Rattle.eq_settings.specs.declared.Index.{Index}
-use Rattle.eq_settings.specs.declared.Index.the-variants as index
-use Rattle.eq_settings.specs.declared.Setting.{Setting}
-use Rattle.eq_settings.specs.declared.Setting.the-variants as setting
-use Rattle.eq_sample.specs.Row as Row
-use Rattle.eq_sample.specs.declared.Registers.{Registers}
+use Rattle.eq_bands.specs.Bands.{inItsRange, worked}
+use Rattle.eq_bands.specs.Names.{indexOf, named}
+use Rattle.eq_bands.specs.declared.Numbers.{Numbers}
+use Rattle.eq_bands.specs.declared.Settings.{Settings}
+use Rattle.eq_bands.specs.declared.Index.{Index}
+use Rattle.eq_bands.specs.declared.Index.the-variants as index
+use Rattle.eq_bands.specs.declared.Setting.{Setting}
+use Rattle.eq_bands.specs.declared.Setting.the-variants as setting
+use Rattle.eq_bands.specs.Row as Row
+use Rattle.eq_bands.specs.declared.Registers.{Registers}
 use Rattle.eq.specs.declared.Equaliser.{Equaliser}
 use Rattle.eq.specs.States.{acceptable, made, unmade, atRest, withBand, valueAt}
 
@@ -69,10 +67,10 @@ module _ (s : Settings) (m : Registers) (xs : List Float) where
   abbrev pub outputs : List Float
   outputs = outAfter (Row.next s) (Row.rounded s) m xs
 
--- what is told, and what the buffer for the output holds afterwards; a refusal leaves it as it was
-unfoldable pub blockChecked : Equaliser → List Float → List Float → Check → Told Equaliser × List Float
-blockChecked e xs out Accepted = (done (equaliserOf (e .settings) (after (e .settings) (e .registers) xs)), outputs (e .settings) (e .registers) xs)
-blockChecked e xs out (Refused r) = (refused e r, out)
+-- the equaliser that they leave
+abbrev pub ranOn : Equaliser → List Float → Equaliser
+ranOn e xs = equaliserOf (e .settings) (after (e .settings) (e .registers) xs)
 
+-- what is told, and what the buffer for the output holds afterwards
 unfoldable pub block : Equaliser → List Float → List Float → Told Equaliser × List Float
-block e xs out = unless (acceptable e) (refused e BadState, out) (blockChecked e xs out (checkBlock xs (length out)))
+block e xs out = checkedBlock e out (done (ranOn e xs), outputs (e .settings) (e .registers) xs) (acceptable e) xs

@@ -1,5 +1,3 @@
--- The equaliser: its states, the calls; rows of the proved table.
+-- The equaliser: its states, the calls.
 pub mod States
-pub mod Answers
 pub mod Calls
-pub mod Table

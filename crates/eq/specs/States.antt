@@ -6,11 +6,11 @@ use lib.ListN.{getD, set, replicate}
 use lib.Ieee.{Float}
 use Rattle.answer.specs.Figures.{nought, one}
 use Rattle.answer.specs.declared.Decibels.{Decibels}
-use Rattle.eq_settings.specs.Bands.{settable, taken, clears}
-use Rattle.eq_settings.specs.declared.Numbers.{Numbers}
-use Rattle.eq_settings.specs.declared.Band.{Band}
-use Rattle.eq_sample.specs.declared.Delay.{Delay}
-use Rattle.eq_sample.specs.declared.Registers.{Registers}
+use Rattle.eq_bands.specs.Bands.{settable, taken, clears}
+use Rattle.eq_bands.specs.declared.Numbers.{Numbers}
+use Rattle.eq_bands.specs.declared.Band.{Band}
+use Rattle.eq_bands.specs.declared.Delay.{Delay}
+use Rattle.eq_bands.specs.declared.Registers.{Registers}
 use Rattle.eq.specs.declared.Equaliser.{Equaliser}
 
 -- settings, rate and worked numbers that could have been set or made; registers may hold any bits

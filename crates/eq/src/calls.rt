@@ -1,25 +1,24 @@
 // The equaliser's calls by value: make, set, read, reset, block. A refusal changes nothing.
-use crate::Answer;
 use crate::Answered;
 use crate::Equaliser;
-use crate::Reading;
 use crate::samples;
 use crate::states;
+use answer::Answer;
 use answer::Check;
 use answer::Decibels;
+use answer::Reading;
 use answer::Refusal;
-use eq_settings::Index;
-use eq_settings::Numbers;
-use eq_settings::Setting;
+use eq_bands::Index;
+use eq_bands::Numbers;
+use eq_bands::Setting;
 ghost use mathlib.Core.Path.{_≡_};
-ghost use Rattle.answer.specs.Told as Told;
-ghost use Rattle.eq.specs.Answers.{told, toldRead};
+ghost use Rattle.answer.specs.Told.{told, toldRead, refused as refusedBy, done as doneIn};
 ghost use Rattle.eq.specs.Calls as Calls;
 
 const BANDS: usize = 16;
 
 fn refused(e: Equaliser, r: Refusal) -> Answered
-    ensures { λ a. ⌜ told (a .equaliser) (a .answer) ≡ Told.refused e r ⌝ }
+    ensures { λ a. ⌜ told (a .equaliser) (a .answer) ≡ refusedBy e r ⌝ }
 {
     Answered {
         equaliser: e,
@@ -28,7 +27,7 @@ fn refused(e: Equaliser, r: Refusal) -> Answered
 }
 
 fn done(e: Equaliser) -> Answered
-    ensures { λ a. ⌜ told (a .equaliser) (a .answer) ≡ Told.done e ⌝ }
+    ensures { λ a. ⌜ told (a .equaliser) (a .answer) ≡ doneIn e ⌝ }
 {
     Answered {
         equaliser: e,
@@ -56,10 +55,10 @@ pub fn set_band(e: Equaliser, i: usize, value: Decibels, numbers: Numbers) -> An
     if BANDS <= i {
         return refused(e, Refusal::NoBand);
     }
-    if !eq_settings::in_its_range(value) {
+    if !eq_bands::in_its_range(value) {
         return refused(e, Refusal::OutOfRange);
     }
-    if !eq_settings::worked(numbers) {
+    if !eq_bands::worked(numbers) {
         return refused(e, Refusal::BadWorkedNumber);
     }
     done(states::with_band(e, i, value, numbers))
@@ -72,7 +71,7 @@ pub fn set(e: Equaliser, name: &[u8], value: Decibels, numbers: Numbers) -> Answ
     if !states::acceptable(e) {
         return refused(e, Refusal::BadState);
     }
-    let Setting::Band(i, v, n) = eq_settings::find(name, value, numbers) else {
+    let Setting::Band(i, v, n) = eq_bands::find(name, value, numbers) else {
         return refused(e, Refusal::NoSetting);
     };
     set_band(e, i, v, n)
@@ -85,7 +84,7 @@ pub fn read(e: Equaliser, name: &[u8]) -> Reading
     if !states::acceptable(e) {
         return Reading::Refused(Refusal::BadState);
     }
-    let Index::At(i) = eq_settings::index_of(name) else {
+    let Index::At(i) = eq_bands::index_of(name) else {
         return Reading::Refused(Refusal::NoSetting);
     };
     if BANDS <= i {
@@ -119,11 +118,5 @@ pub fn block(e: Equaliser, input: &[f32], output: &mut [f32]) -> Answered
     if let Check::Refused(r) = found {
         return refused(e, r);
     }
-    let s = e.settings;
-    let m = e.registers;
-    let moved = samples::run(s, m, input, output);
-    done(Equaliser {
-        settings: s,
-        registers: moved,
-    })
+    done(samples::run(e, input, output))
 }

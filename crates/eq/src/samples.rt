@@ -1,12 +1,13 @@
 // A block's samples: to f64, through the bands one after the other, and back by one rounding.
-use eq_sample::Registers;
-use eq_settings::Settings;
+use crate::Equaliser;
+use eq_bands::Registers;
+use eq_bands::Settings;
 ghost use Prim.Native.Nat.{_≤_};
 ghost use lib.ListN.{length};
 ghost use mathlib.Core.List.{map};
 ghost use mathlib.Core.Path.{_≡_};
 ghost use Rattle.rounding.specs.Casts as Casts;
-ghost use Rattle.eq.specs.Calls.{after, outputs};
+ghost use Rattle.eq.specs.Calls.{after, outputs, ranOn};
 
 fn widen(input: &[f32], buffer: &mut [f64])
     requires { ⌜ length (now input) ≡ length (now buffer) ⌝ }
@@ -42,17 +43,23 @@ fn run_in(
     ensures { λ r. ⌜ (r ≡ after s m (now (input .entry))) × (now (output .exit) ≡ outputs s m (now (input .entry))) ⌝ }
 {
     widen(input, buffer);
-    let moved = eq_sample::through(s, m, buffer);
+    let moved = eq_bands::through(s, m, buffer);
     narrow(buffer, output);
     moved
 }
 
 // A block's samples, one after the other.
-pub fn run(s: Settings, m: Registers, input: &[f32], output: &mut [f32]) -> Registers
+pub fn run(e: Equaliser, input: &[f32], output: &mut [f32]) -> Equaliser
     requires { ⌜ (length (now input) ≡ length (now output)) × (length (now input) ≤ 4096) ⌝ }
-    ensures { λ r. ⌜ (r ≡ after s m (now (input .entry))) × (now (output .exit) ≡ outputs s m (now (input .entry))) ⌝ }
+    ensures { λ r. ⌜ (r ≡ ranOn e (now (input .entry))) × (now (output .exit) ≡ outputs (e .settings) (e .registers) (now (input .entry))) ⌝ }
 {
+    let s = e.settings;
+    let m = e.registers;
     let mut buffer = [0.0f64; 4096];
     let n = input.len();
-    run_in(s, m, input, output, &mut buffer[..n])
+    let moved = run_in(s, m, input, output, &mut buffer[..n]);
+    Equaliser {
+        settings: s,
+        registers: moved,
+    }
 }

@@ -1,11 +1,11 @@
 // States: what 9 accepts, a made one, one at rest, and what a setting leaves.
 use crate::Equaliser;
 use answer::Decibels;
-use eq_sample::Delay;
-use eq_sample::Registers;
-use eq_settings::Band;
-use eq_settings::Numbers;
-use eq_settings::Settings;
+use eq_bands::Band;
+use eq_bands::Delay;
+use eq_bands::Numbers;
+use eq_bands::Registers;
+use eq_bands::Settings;
 ghost use Prim.Native.Nat.{_<_};
 ghost use mathlib.Core.Bool.{cond};
 ghost use mathlib.Core.Path.{_≡_};
@@ -23,7 +23,7 @@ pub fn acceptable(e: Equaliser) -> bool
     ensures { λ r. ⌜ r ≡ States.acceptable e ⌝ }
 {
     let s = e.settings;
-    eq_settings::settable(s)
+    eq_bands::settable(s)
 }
 
 pub fn at_rest() -> Registers
@@ -76,8 +76,8 @@ pub fn with_band(e: Equaliser, i: usize, value: Decibels, numbers: Numbers) -> E
     let old = bands[i];
     let n = old.numbers;
     let d = delays[i];
-    bands[i] = eq_settings::taken(value, numbers);
-    delays[i] = cleared(eq_settings::clears(n, value), d);
+    bands[i] = eq_bands::taken(value, numbers);
+    delays[i] = cleared(eq_bands::clears(n, value), d);
     Equaliser {
         settings: Settings {
             rate: s.rate,

@@ -7,19 +7,45 @@ ghost use Rattle.rounding.specs.Casts.{narrow, absolute};
 
 const SIGN: u64 = 0x8000_0000_0000_0000;
 
+// An `f32`'s sign, in its own width and beside an `f64`'s numbers, and its infinity.
+const SIGN32: u32 = 0x8000_0000;
+
+const WIDE_SIGN32: u64 = 0x8000_0000;
+
+const INFINITY32: u64 = 0x7f80_0000;
+
+// Digits of an `f64` below its leading one, and how many of them an `f32` has no room for.
+const FRACTION: u64 = 52;
+
+const SPARE: u64 = 29;
+
+// The pattern of the least normal `f32` as an `f64`, and how far an `f64`'s exponents lie above an
+// `f32`'s: 897 and 896, each with 52 digits below.
+const NORMAL: u64 = 0x3810_0000_0000_0000;
+
+const EXPONENTS: u64 = 0x3800_0000_0000_0000;
+
+// The exponent of half the smallest `f32`: what has a lesser one rounds to 0.
+const HALF_SMALLEST: u64 = 873;
+
+// Below the normal values one digit more is cut off for each exponent below 897: 29 and 897 in all.
+const CUT: u64 = 926;
+
+const TWO_TO_64: f32 = 18446744073709551616.0;
+
 // From an `f64`'s bit pattern without its sign to an `f32`'s, which may lie past the infinity's.
 fn rounded(m: u64) -> u64
     requires { ⌜ m < 2 ^ 63 ⌝ }
     ensures { λ r. ⌜ r ≡ pattern (significand (2 ^ 52) m * 1024) (m / 2 ^ 52 - 1) 39 935 ⌝ }
 {
-    if 0x3810_0000_0000_0000 <= m {
-        return bits::nearest(m - 0x3800_0000_0000_0000, 29);
+    if NORMAL <= m {
+        return bits::nearest(m - EXPONENTS, SPARE);
     }
-    let x = m >> 52;
-    if x < 873 {
+    let x = m >> FRACTION;
+    if x < HALF_SMALLEST {
         return 0;
     }
-    bits::nearest((1 << 52) + m % (1 << 52), 926 - x)
+    bits::nearest((1 << FRACTION) + m % (1 << FRACTION), CUT - x)
 }
 
 // x to an `f32` by one rounding, to nearest, ties to even.
@@ -30,8 +56,8 @@ pub fn narrowed(x: f64) -> f32
         return 0.0 / 0.0;
     }
     let w = f64::to_bits(x);
-    let size = bits::least(rounded(w % SIGN), 0x7f80_0000);
-    bits::from_bits32((w / SIGN * 0x8000_0000 + size) as u32)
+    let size = bits::least(rounded(w % SIGN), INFINITY32);
+    bits::from_bits32((w / SIGN * WIDE_SIGN32 + size) as u32)
 }
 
 // An `f64` holds every `f32`.
@@ -49,7 +75,7 @@ pub fn truncated(x: f32) -> u64
     ensures { λ r. ⌜ r ≡ toUnsigned 64 x ⌝ }
 {
     if -1.0 < x {
-        if x < 18446744073709551616.0 {
+        if x < TWO_TO_64 {
             return std::num::truncating_f32_to_u64(x);
         }
         return 0xffff_ffff_ffff_ffff;
@@ -64,7 +90,7 @@ pub fn size32(x: f32) -> f32
     if x != x {
         return 0.0 / 0.0;
     }
-    f32::from_bits(f32::to_bits(x) % 0x8000_0000)
+    f32::from_bits(f32::to_bits(x) % SIGN32)
 }
 
 pub fn size64(x: f64) -> f64

@@ -41,12 +41,12 @@ module _ {S X Y : Type 0} (next : S → X → S) (out : S → X → Y) where
         let ho : length output ≤ i = omega (arith, u .long) in
         (rw hd at (u .state), sym (take-all i output ho) ∙ sym (append-nil (take i output)) ∙ rw hd at (u .outs))
 
--- ---- the count
-more-add : (b : Bool) (n m : ℕ) → more b n + m ≡ n + more b m
+-- ---- the count: one sample more, beside what is counted after it and beside a bound
+pub more-add : (b : Bool) (n m : ℕ) → more b n + m ≡ n + more b m
 more-add true n m = omega arith
 more-add false n m = refl
 
-more-le : (b : Bool) (n i : ℕ) → n ≤ i → more b n ≤ i + 1
+pub more-le : (b : Bool) (n i : ℕ) → n ≤ i → more b n ≤ i + 1
 more-le true n i h = omega arith
 more-le false n i h = omega arith
 

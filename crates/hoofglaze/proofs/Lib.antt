@@ -1,6 +1,3 @@
--- What crosses to a host.
-mod Answers
-mod Clipped
-mod Equalised
-mod Toned
-mod Saturated
+-- What a gate's block answers, where it crosses; what the calls in place share.
+pub mod Answers
+mod InPlace

@@ -1,8 +1,2 @@
--- Answers as they cross to a host.
-pub mod Answers
-pub mod Lone
+-- An answer of the gate's block as it crosses to a host; every other is `answer`'s own.
 pub mod Gate
-pub mod Clip
-pub mod Equalise
-pub mod Tone
-pub mod Saturator

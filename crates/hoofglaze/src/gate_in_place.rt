@@ -1,13 +1,13 @@
 // The gate where it lies: each call takes the host's own gate, calls the form by value and stores what
 // it gives. Assumes nothing.
-use crate::Answer;
 use crate::gate::hoofglaze_gate_block;
 use crate::gate::hoofglaze_gate_reset;
 use crate::gate::hoofglaze_gate_set;
+use answer::Numbered;
 use noise_gate::Gate;
 ghost use mathlib.Core.Path.{_≡_};
 ghost use Rattle.noise_gate.specs.Calls as calls;
-ghost use Rattle.hoofglaze.specs.Answers.{told};
+ghost use Rattle.answer.specs.Crossing.{toldIn};
 
 #[no_mangle]
 pub extern "C" fn hoofglaze_gate_set_in_place(
@@ -15,8 +15,8 @@ pub extern "C" fn hoofglaze_gate_set_in_place(
     name: &[u8],
     value: f32,
     worked: f32,
-) -> Answer
-    ensures { λ r. ⌜ told (now (g .exit)) r ≡ calls.set (now (g .entry)) (now (name .entry)) value worked ⌝ }
+) -> Numbered
+    ensures { λ r. ⌜ toldIn (now (g .exit)) r ≡ calls.set (now (g .entry)) (now (name .entry)) value worked ⌝ }
 {
     let r = hoofglaze_gate_set(*g, name, value, worked);
     *g = r.gate;
@@ -24,8 +24,8 @@ pub extern "C" fn hoofglaze_gate_set_in_place(
 }
 
 #[no_mangle]
-pub extern "C" fn hoofglaze_gate_reset_in_place(g: &mut Gate) -> Answer
-    ensures { λ r. ⌜ told (now (g .exit)) r ≡ calls.reset (now (g .entry)) ⌝ }
+pub extern "C" fn hoofglaze_gate_reset_in_place(g: &mut Gate) -> Numbered
+    ensures { λ r. ⌜ toldIn (now (g .exit)) r ≡ calls.reset (now (g .entry)) ⌝ }
 {
     let r = hoofglaze_gate_reset(*g);
     *g = r.gate;
@@ -37,8 +37,8 @@ pub extern "C" fn hoofglaze_gate_block_in_place(
     g: &mut Gate,
     input: &[f32],
     output: &mut [f32],
-) -> Answer
-    ensures { λ r. ⌜ (told (now (g .exit)) r, now (output .exit)) ≡ calls.block (now (g .entry)) (now (input .entry)) (now (output .entry)) ⌝ }
+) -> Numbered
+    ensures { λ r. ⌜ (toldIn (now (g .exit)) r, now (output .exit)) ≡ calls.block (now (g .entry)) (now (input .entry)) (now (output .entry)) ⌝ }
 {
     let r = hoofglaze_gate_block(*g, input, output);
     *g = r.gate;

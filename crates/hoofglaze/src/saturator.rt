@@ -1,53 +1,37 @@
 // The multiband saturator under C names. Assumes nothing.
-use crate::Answer;
-use crate::done;
-use crate::refused;
+use answer::Numbered;
+use multiband_saturator::Band;
+use multiband_saturator::Crossover;
+use multiband_saturator::Frequency;
 use multiband_saturator::Saturator;
-use saturator_settings::Crossover;
-use saturator_settings::Setting;
+use multiband_saturator::Setting;
 ghost use mathlib.Core.Path.{_≡_};
 ghost use Rattle.multiband_saturator.specs.Calls as calls;
-ghost use Rattle.saturator_settings.specs.declared.Setting.the-variants.{LowDrive, MidDrive, HighDrive, LowLevel, MidLevel, HighLevel, LowFreq, HighFreq};
-ghost use Rattle.hoofglaze.specs.Answers.{told};
-ghost use Rattle.hoofglaze.specs.Saturator as crossing;
+ghost use Rattle.multiband_saturator_settings.specs.declared.Band.the-variants as band;
+ghost use Rattle.multiband_saturator_settings.specs.declared.Frequency.the-variants as frequency;
+ghost use Rattle.multiband_saturator_settings.specs.declared.Setting.the-variants.{Drive, Level, Freq};
+ghost use Rattle.answer.specs.Crossing.{toldIn};
+ghost use Rattle.answer.specs.Told.{told};
 
 #[repr(C)]
 pub struct SaturatorAnswered {
     pub saturator: Saturator,
-    pub answer: Answer,
-}
-
-fn answered(a: multiband_saturator::Answer) -> Answer
-    ensures { λ r. ⌜ r ≡ crossing.answered a ⌝ }
-{
-    match a {
-        multiband_saturator::Answer::Done => done(0, 0.0),
-        multiband_saturator::Answer::Refused(r) => refused(r),
-    }
-}
-
-fn read(a: multiband_saturator::Reading) -> Answer
-    ensures { λ r. ⌜ r ≡ crossing.read a ⌝ }
-{
-    match a {
-        multiband_saturator::Reading::Done(value) => done(0, value),
-        multiband_saturator::Reading::Refused(r) => refused(r),
-    }
+    pub answer: Numbered,
 }
 
 fn crossed(a: multiband_saturator::Answered) -> SaturatorAnswered
-    ensures { λ r. ⌜ told (r .saturator) (r .answer) ≡ crossing.toldOf a ⌝ }
+    ensures { λ r. ⌜ toldIn (r .saturator) (r .answer) ≡ told (a .saturator) (a .answer) ⌝ }
 {
     let saturator = a.saturator;
     let answer = a.answer;
     SaturatorAnswered {
         saturator: saturator,
-        answer: answered(answer),
+        answer: answer::of_answer(answer),
     }
 }
 
 fn set_typed(s: Saturator, t: Setting) -> SaturatorAnswered
-    ensures { λ r. ⌜ told (r .saturator) (r .answer) ≡ calls.setTyped s t ⌝ }
+    ensures { λ r. ⌜ toldIn (r .saturator) (r .answer) ≡ calls.setTyped s t ⌝ }
 {
     crossed(multiband_saturator::set_typed(s, t))
 }
@@ -61,7 +45,7 @@ pub extern "C" fn hoofglaze_saturator_make(
     release: f32,
     blocker: f32,
 ) -> SaturatorAnswered
-    ensures { λ r. ⌜ told (r .saturator) (r .answer) ≡ calls.make rate low high attack release blocker ⌝ }
+    ensures { λ r. ⌜ toldIn (r .saturator) (r .answer) ≡ calls.make rate low high attack release blocker ⌝ }
 {
     crossed(multiband_saturator::make(rate, low, high, attack, release, blocker))
 }
@@ -73,51 +57,51 @@ pub extern "C" fn hoofglaze_saturator_set(
     value: f32,
     worked: Crossover,
 ) -> SaturatorAnswered
-    ensures { λ r. ⌜ told (r .saturator) (r .answer) ≡ calls.set s (now (name .entry)) value worked ⌝ }
+    ensures { λ r. ⌜ toldIn (r .saturator) (r .answer) ≡ calls.set s (now (name .entry)) value worked ⌝ }
 {
     crossed(multiband_saturator::set(s, name, value, worked))
 }
 
 #[no_mangle]
 pub extern "C" fn hoofglaze_saturator_set_low_drive(s: Saturator, value: f32) -> SaturatorAnswered
-    ensures { λ r. ⌜ told (r .saturator) (r .answer) ≡ calls.setTyped s (LowDrive value) ⌝ }
+    ensures { λ r. ⌜ toldIn (r .saturator) (r .answer) ≡ calls.setTyped s (Drive band.Low value) ⌝ }
 {
-    set_typed(s, Setting::LowDrive(value))
+    set_typed(s, Setting::Drive(Band::Low, value))
 }
 
 #[no_mangle]
 pub extern "C" fn hoofglaze_saturator_set_mid_drive(s: Saturator, value: f32) -> SaturatorAnswered
-    ensures { λ r. ⌜ told (r .saturator) (r .answer) ≡ calls.setTyped s (MidDrive value) ⌝ }
+    ensures { λ r. ⌜ toldIn (r .saturator) (r .answer) ≡ calls.setTyped s (Drive band.Mid value) ⌝ }
 {
-    set_typed(s, Setting::MidDrive(value))
+    set_typed(s, Setting::Drive(Band::Mid, value))
 }
 
 #[no_mangle]
 pub extern "C" fn hoofglaze_saturator_set_high_drive(s: Saturator, value: f32) -> SaturatorAnswered
-    ensures { λ r. ⌜ told (r .saturator) (r .answer) ≡ calls.setTyped s (HighDrive value) ⌝ }
+    ensures { λ r. ⌜ toldIn (r .saturator) (r .answer) ≡ calls.setTyped s (Drive band.High value) ⌝ }
 {
-    set_typed(s, Setting::HighDrive(value))
+    set_typed(s, Setting::Drive(Band::High, value))
 }
 
 #[no_mangle]
 pub extern "C" fn hoofglaze_saturator_set_low_level(s: Saturator, value: f32) -> SaturatorAnswered
-    ensures { λ r. ⌜ told (r .saturator) (r .answer) ≡ calls.setTyped s (LowLevel value) ⌝ }
+    ensures { λ r. ⌜ toldIn (r .saturator) (r .answer) ≡ calls.setTyped s (Level band.Low value) ⌝ }
 {
-    set_typed(s, Setting::LowLevel(value))
+    set_typed(s, Setting::Level(Band::Low, value))
 }
 
 #[no_mangle]
 pub extern "C" fn hoofglaze_saturator_set_mid_level(s: Saturator, value: f32) -> SaturatorAnswered
-    ensures { λ r. ⌜ told (r .saturator) (r .answer) ≡ calls.setTyped s (MidLevel value) ⌝ }
+    ensures { λ r. ⌜ toldIn (r .saturator) (r .answer) ≡ calls.setTyped s (Level band.Mid value) ⌝ }
 {
-    set_typed(s, Setting::MidLevel(value))
+    set_typed(s, Setting::Level(Band::Mid, value))
 }
 
 #[no_mangle]
 pub extern "C" fn hoofglaze_saturator_set_high_level(s: Saturator, value: f32) -> SaturatorAnswered
-    ensures { λ r. ⌜ told (r .saturator) (r .answer) ≡ calls.setTyped s (HighLevel value) ⌝ }
+    ensures { λ r. ⌜ toldIn (r .saturator) (r .answer) ≡ calls.setTyped s (Level band.High value) ⌝ }
 {
-    set_typed(s, Setting::HighLevel(value))
+    set_typed(s, Setting::Level(Band::High, value))
 }
 
 #[no_mangle]
@@ -126,9 +110,9 @@ pub extern "C" fn hoofglaze_saturator_set_low_freq(
     value: f32,
     worked: Crossover,
 ) -> SaturatorAnswered
-    ensures { λ r. ⌜ told (r .saturator) (r .answer) ≡ calls.setTyped s (LowFreq value worked) ⌝ }
+    ensures { λ r. ⌜ toldIn (r .saturator) (r .answer) ≡ calls.setTyped s (Freq frequency.Low value worked) ⌝ }
 {
-    set_typed(s, Setting::LowFreq(value, worked))
+    set_typed(s, Setting::Freq(Frequency::Low, value, worked))
 }
 
 #[no_mangle]
@@ -137,21 +121,21 @@ pub extern "C" fn hoofglaze_saturator_set_high_freq(
     value: f32,
     worked: Crossover,
 ) -> SaturatorAnswered
-    ensures { λ r. ⌜ told (r .saturator) (r .answer) ≡ calls.setTyped s (HighFreq value worked) ⌝ }
+    ensures { λ r. ⌜ toldIn (r .saturator) (r .answer) ≡ calls.setTyped s (Freq frequency.High value worked) ⌝ }
 {
-    set_typed(s, Setting::HighFreq(value, worked))
+    set_typed(s, Setting::Freq(Frequency::High, value, worked))
 }
 
 #[no_mangle]
-pub extern "C" fn hoofglaze_saturator_read(s: Saturator, name: &[u8]) -> Answer
-    ensures { λ r. ⌜ told s r ≡ calls.read s (now (name .entry)) ⌝ }
+pub extern "C" fn hoofglaze_saturator_read(s: Saturator, name: &[u8]) -> Numbered
+    ensures { λ r. ⌜ toldIn s r ≡ calls.read s (now (name .entry)) ⌝ }
 {
-    read(multiband_saturator::read(s, name))
+    answer::of_reading(multiband_saturator::read(s, name))
 }
 
 #[no_mangle]
 pub extern "C" fn hoofglaze_saturator_reset(s: Saturator) -> SaturatorAnswered
-    ensures { λ r. ⌜ told (r .saturator) (r .answer) ≡ calls.reset s ⌝ }
+    ensures { λ r. ⌜ toldIn (r .saturator) (r .answer) ≡ calls.reset s ⌝ }
 {
     crossed(multiband_saturator::reset(s))
 }
@@ -162,7 +146,7 @@ pub extern "C" fn hoofglaze_saturator_block(
     input: &[f32],
     output: &mut [f32],
 ) -> SaturatorAnswered
-    ensures { λ r. ⌜ (told (r .saturator) (r .answer), now (output .exit)) ≡ calls.block s (now (input .entry)) (now (output .entry)) ⌝ }
+    ensures { λ r. ⌜ (toldIn (r .saturator) (r .answer), now (output .exit)) ≡ calls.block s (now (input .entry)) (now (output .entry)) ⌝ }
 {
     crossed(multiband_saturator::block(s, input, output))
 }

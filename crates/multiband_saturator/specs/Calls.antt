@@ -2,70 +2,77 @@
 -- Assumes nothing.
 use Prim.Native.Nat.{ℕ}
 use mathlib.Core.List.{List}
-use lib.Dec.{eqb, leb}
-use lib.ListN.{length}
 use lib.Ieee.{Float}
-use Rattle.answer.specs.Figures.{f32, nought, one, longestBlock}
-use Rattle.answer.specs.Checks.{isRate, firstRefused}
+use Rattle.answer.specs.Figures.{f32, nought, one}
+use Rattle.answer.specs.Checks.{isRate}
+use Rattle.answer.specs.Blocks.{checkedBlock}
 use Rattle.answer.specs.Told.{Told, refused, done, doneWith, unless}
-use Rattle.answer.specs.declared.Refusal.the-variants.{NoSetting, OutOfRange, BadWorkedNumber, BadRate, BadSample, LengthsDiffer, TooLong, BadState}
+use Rattle.answer.specs.declared.Refusal.the-variants.{NoSetting, OutOfRange, BadWorkedNumber, BadRate, BadState}
 use Rattle.fold.specs.Fold.{stateAfter, outAfter}
-use Rattle.saturator_settings.specs.Ranges.{inItsRange, worked, withSetting, lent, settable}
-use Rattle.saturator_settings.specs.Names.{named, kept}
-use Rattle.saturator_settings.specs.declared.Numbers.{Numbers}
-use Rattle.saturator_settings.specs.declared.Crossover.{Crossover}
-use Rattle.saturator_settings.specs.declared.Bands.{Bands}
-use Rattle.saturator_settings.specs.declared.Settings.{Settings}
-use Rattle.saturator_settings.specs.declared.Setting.{Setting}
-use Rattle.saturator_settings.specs.declared.Named.{Named}
-use Rattle.saturator_settings.specs.declared.Named.the-variants.{Known, Unknown}
-use Rattle.saturator_sample.specs.Step.{output, next}
-use Rattle.saturator_sample.specs.declared.Half.{Half}
-use Rattle.saturator_sample.specs.declared.Filter.{Filter}
-use Rattle.saturator_sample.specs.declared.Band.{Band}
-use Rattle.saturator_sample.specs.declared.Registers.{Registers}
+use Rattle.multiband_saturator_settings.specs.Ranges.{inItsRange, worked, withSetting, lent, settable}
+use Rattle.multiband_saturator_settings.specs.Names.{named, kept}
+use Rattle.multiband_saturator_settings.specs.declared.Numbers.{Numbers}
+use Rattle.multiband_saturator_settings.specs.declared.Crossover.{Crossover}
+use Rattle.multiband_saturator_settings.specs.declared.Bands.{Bands}
+use Rattle.multiband_saturator_settings.specs.declared.Frequencies.{Frequencies}
+use Rattle.multiband_saturator_settings.specs.declared.Settings.{Settings}
+use Rattle.multiband_saturator_settings.specs.declared.Setting.{Setting}
+use Rattle.multiband_saturator_settings.specs.declared.Named.{Named}
+use Rattle.multiband_saturator_settings.specs.declared.Named.the-variants.{Known, Unknown}
+use Rattle.multiband_saturator_sample.specs.Step.{output, next}
+use Rattle.multiband_saturator_sample.specs.declared.Biquad.{Biquad}
+use Rattle.multiband_saturator_sample.specs.declared.Filter.{Filter}
+use Rattle.multiband_saturator_sample.specs.declared.Split.{Split}
+use Rattle.multiband_saturator_sample.specs.declared.BandRegisters.{BandRegisters}
+use Rattle.multiband_saturator_sample.specs.declared.Registers.{Registers}
 use Rattle.multiband_saturator.specs.declared.Saturator.{Saturator}
 
 abbrev pub saturatorOf : Settings → Registers → Saturator
 saturatorOf s m = record { settings = s; registers = m }
 
 -- ---- every register 0
-abbrev pub halfAtRest : Half
-halfAtRest = record { x1 = nought; x2 = nought; y1 = nought; y2 = nought }
+abbrev pub biquadAtRest : Biquad
+biquadAtRest = record { x1 = nought; x2 = nought; y1 = nought; y2 = nought }
 
 abbrev pub filterAtRest : Filter
-filterAtRest = record { first = halfAtRest; second = halfAtRest }
+filterAtRest = record { first = biquadAtRest; second = biquadAtRest }
 
-abbrev pub bandAtRest : Band
+abbrev pub splitAtRest : Split
+splitAtRest = record { lp = filterAtRest; hp = filterAtRest }
+
+abbrev pub bandAtRest : BandRegisters
 bandAtRest = record { level = nought; x1 = nought; y1 = nought }
 
 abbrev pub atRest : Registers
 atRest = record {
-  low = filterAtRest;
-  side = filterAtRest;
-  mid = filterAtRest;
-  high = filterAtRest;
-  lowpass = filterAtRest;
-  highpass = filterAtRest;
-  lows = bandAtRest;
-  mids = bandAtRest;
-  highs = bandAtRest;
+  lowmid = splitAtRest;
+  midhigh = splitAtRest;
+  allpass = splitAtRest;
+  low = bandAtRest;
+  mid = bandAtRest;
+  high = bandAtRest;
 }
 
 -- ---- make: 5, 4
--- drives 0, levels 1, 200 Hz and 2,000 Hz
-unfoldable pub madeSettings : Float → Crossover → Crossover → Float → Float → Float → Settings
-madeSettings rate low high attack release blocker = record {
-  rate = rate;
-  drives = record { low = nought; mid = nought; high = nought };
-  levels = record { low = one; mid = one; high = one };
-  frequencies = record { low = f32 200 1; high = f32 2000 1 };
-  low = low;
-  high = high;
-  attack = attack;
-  release = release;
-  blocker = blocker;
-}
+abbrev pub everyBand : Float → Bands
+everyBand x = record { low = x; mid = x; high = x }
+
+-- at rest, drives 0, and that level for every band
+abbrev pub fresh : Float → Float → Frequencies → Crossover → Crossover → Float → Float → Float → Saturator
+fresh rate level frequencies low high attack release blocker =
+    saturatorOf
+    (record {
+      rate = rate;
+      drives = everyBand nought;
+      levels = everyBand level;
+      frequencies = frequencies;
+      low = low;
+      high = high;
+      attack = attack;
+      release = release;
+      blocker = blocker;
+    })
+    atRest
 
 abbrev pub noNumbers : Numbers
 noNumbers = record { b0 = nought; b1 = nought; b2 = nought; a1 = nought; a2 = nought }
@@ -73,31 +80,19 @@ noNumbers = record { b0 = nought; b1 = nought; b2 = nought; a1 = nought; a2 = no
 abbrev pub noCrossover : Crossover
 noCrossover = record { lowpass = noNumbers; highpass = noNumbers }
 
-abbrev pub noBands : Bands
-noBands = record { low = nought; mid = nought; high = nought }
-
--- what a refused making gives
+-- what a refused making gives: every number 0
 abbrev pub unmade : Saturator
-unmade = record {
-  settings = record {
-    rate = nought;
-    drives = noBands;
-    levels = noBands;
-    frequencies = record { low = nought; high = nought };
-    low = noCrossover;
-    high = noCrossover;
-    attack = nought;
-    release = nought;
-    blocker = nought;
-  };
-  registers = atRest;
-}
+unmade = fresh nought nought (record { low = nought; high = nought }) noCrossover noCrossover nought nought nought
+
+-- drives 0, levels 1, 200 Hz and 2,000 Hz
+unfoldable pub made : Float → Crossover → Crossover → Float → Float → Float → Saturator
+made rate = fresh rate one (record { low = f32 200 1; high = f32 2000 1 })
 
 unfoldable pub make : Float → Crossover → Crossover → Float → Float → Float → Told Saturator
 make rate low high attack release blocker =
     unless (isRate rate) (refused unmade BadRate)
     (unless (lent low high attack release blocker) (refused unmade BadWorkedNumber)
-    (done (saturatorOf (madeSettings rate low high attack release blocker) atRest)))
+    (done (made rate low high attack release blocker)))
 
 -- ---- set, typed: 9, 3, 4; and by a name with its numbers: 9, 1, 3, 4. Registers stay
 unfoldable pub setTyped : Saturator → Setting → Told Saturator
@@ -135,11 +130,8 @@ module _ (s : Settings) (m : Registers) (xs : List Float) where
   abbrev pub outputs : List Float
   outputs = outAfter (next s) (output s) m xs
 
--- what is told, and what the buffer for the output holds afterwards; a refusal leaves it as it was
+-- what is told, and what the buffer for the output holds afterwards
 unfoldable pub block : Saturator → List Float → List Float → Told Saturator × List Float
 block s xs out =
-    unless (settable (s .settings)) (refused s BadState, out)
-    (unless (eqb (length xs) (length out)) (refused s LengthsDiffer, out)
-    (unless (leb (length xs) longestBlock) (refused s TooLong, out)
-    (unless (leb (length xs) (firstRefused xs)) (refused s (BadSample (firstRefused xs)), out)
-    (done (saturatorOf (s .settings) (after (s .settings) (s .registers) xs)), outputs (s .settings) (s .registers) xs))))
+    checkedBlock s out (done (saturatorOf (s .settings) (after (s .settings) (s .registers) xs)), outputs (s .settings) (s .registers) xs)
+    (settable (s .settings)) xs

@@ -1,3 +1,2 @@
 -- The multiband saturator: what its calls tell, and the calls.
-pub mod Answers
 pub mod Calls

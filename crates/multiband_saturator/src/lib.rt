@@ -1,19 +1,20 @@
-// The multiband saturator: its state, and what its calls answer.
+// The multiband saturator: its state and its calls.
 mod calls;
 mod samples;
 
-use answer::Refusal;
+use answer::Answer;
 pub use calls::block;
 pub use calls::make;
 pub use calls::read;
 pub use calls::reset;
 pub use calls::set;
 pub use calls::set_typed;
-pub use saturator_sample::Registers;
-pub use saturator_settings::Crossover;
-pub use saturator_settings::Numbers;
-pub use saturator_settings::Setting;
-pub use saturator_settings::Settings;
+use multiband_saturator_sample::Registers;
+pub use multiband_saturator_settings::Band;
+pub use multiband_saturator_settings::Crossover;
+pub use multiband_saturator_settings::Frequency;
+pub use multiband_saturator_settings::Setting;
+use multiband_saturator_settings::Settings;
 
 // What a host sets, and what a sample moves.
 #[repr(C)]
@@ -22,18 +23,7 @@ pub struct Saturator {
     pub registers: Registers,
 }
 
-// What making, setting, reset and a block answer.
-pub enum Answer {
-    Done,
-    Refused(Refusal),
-}
-
-// What reading answers.
-pub enum Reading {
-    Done(f32),
-    Refused(Refusal),
-}
-
+// The saturator after a call, and what making, setting, reset and a block answer.
 pub struct Answered {
     pub saturator: Saturator,
     pub answer: Answer,

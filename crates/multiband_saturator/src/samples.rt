@@ -1,6 +1,6 @@
 // A block's samples.
-use saturator_sample::Registers;
-use saturator_settings::Settings;
+use multiband_saturator_sample::Registers;
+use multiband_saturator_settings::Settings;
 ghost use lib.ListN.{length};
 ghost use mathlib.Core.Path.{_≡_};
 ghost use Rattle.multiband_saturator.specs.Calls.{after, outputs};
@@ -13,11 +13,9 @@ pub fn run(s: Settings, m: Registers, input: &[f32], output: &mut [f32]) -> Regi
     let mut now = m;
     let mut i: usize = 0;
     while i < input.len() {
-        let before = now;
-        let stepped = saturator_sample::step(s, before, input[i]);
-        let next = stepped.registers;
+        let stepped = multiband_saturator_sample::step(s, now, input[i]);
         output[i] = stepped.output;
-        now = next;
+        now = stepped.registers;
         i += 1;
     }
     now

@@ -4,9 +4,9 @@ use mathlib.Core.Bool.{Bool, _&&_}
 use lib.Dec.{leb}
 use Rattle.answer.specs.Figures.{f32, nought, one, largestSample}
 use Rattle.answer.specs.Checks.{inRange}
-use Rattle.gate_settings.specs.Ranges.{settable}
+use Rattle.noise_gate_settings.specs.Ranges.{settable}
 use Rattle.noise_gate.specs.Figures.{longestCount}
-use Rattle.gate_sample.specs.declared.Registers.{Registers}
+use Rattle.noise_gate_sample.specs.declared.Registers.{Registers}
 use Rattle.noise_gate.specs.declared.Gate.{Gate}
 
 -- level 0 to 64, state 0 to 1, counter 0 to 96,000

@@ -3,25 +3,24 @@
 use Prim.Native.Nat.{ℕ}
 use mathlib.Core.Bool.{_&&_}
 use mathlib.Core.List.{List}
-use lib.Dec.{eqb, leb}
-use lib.ListN.{length}
 use lib.Ieee.{Float}
-use Rattle.answer.specs.Figures.{f32, nought, one, longestBlock}
-use Rattle.answer.specs.Checks.{isRate, isSmoothing, firstRefused}
+use Rattle.answer.specs.Figures.{f32, nought, one}
+use Rattle.answer.specs.Checks.{isRate, isSmoothing}
 use Rattle.answer.specs.Told.{Told, refused, done, doneWith, unless}
-use Rattle.answer.specs.declared.Refusal.the-variants.{NoSetting, OutOfRange, BadWorkedNumber, BadRate, BadSample, LengthsDiffer, TooLong, BadState}
+use Rattle.answer.specs.Blocks.{checkedBlock}
+use Rattle.answer.specs.declared.Refusal.the-variants.{NoSetting, OutOfRange, BadWorkedNumber, BadRate, BadState}
 use Rattle.fold.specs.Fold.{stateAfter, outAfter, countAfter}
 use Rattle.noise_gate.specs.Figures.{madeHold}
-use Rattle.gate_sample.specs.Step.{aim, output, next}
-use Rattle.gate_settings.specs.Ranges.{inItsRange, worked, withSetting}
+use Rattle.noise_gate_sample.specs.Step.{aim, output, next}
+use Rattle.noise_gate_settings.specs.Ranges.{inItsRange, worked, withSetting}
 use Rattle.noise_gate.specs.Bounds.{acceptable}
-use Rattle.gate_settings.specs.Names.{named, kept}
-use Rattle.gate_settings.specs.declared.Settings.{Settings}
-use Rattle.gate_sample.specs.declared.Registers.{Registers}
+use Rattle.noise_gate_settings.specs.Names.{named, kept}
+use Rattle.noise_gate_settings.specs.declared.Settings.{Settings}
+use Rattle.noise_gate_sample.specs.declared.Registers.{Registers}
 use Rattle.noise_gate.specs.declared.Gate.{Gate}
-use Rattle.gate_settings.specs.declared.Setting.{Setting}
-use Rattle.gate_settings.specs.declared.Named.{Named}
-use Rattle.gate_settings.specs.declared.Named.the-variants.{Known, Unknown}
+use Rattle.noise_gate_settings.specs.declared.Setting.{Setting}
+use Rattle.noise_gate_settings.specs.declared.Named.{Named}
+use Rattle.noise_gate_settings.specs.declared.Named.the-variants.{Known, Unknown}
 
 abbrev pub gateOf : Settings → Registers → Gate
 gateOf s m = record { settings = s; registers = m }
@@ -36,10 +35,8 @@ madeSettings rate rising falling = record {
   threshold = record { 0 = nought };
   factor = record { 0 = one };
   ratio = f32 10 1;
-  attack = one;
-  opening = nought;
-  release = f32 100 1;
-  closing = nought;
+  attack = record { ms = one; number = nought };
+  release = record { ms = f32 100 1; number = nought };
   hold = f32 madeHold 1;
   rising = rising;
   falling = falling;
@@ -53,10 +50,8 @@ unmade = record {
     threshold = record { 0 = nought };
     factor = record { 0 = nought };
     ratio = nought;
-    attack = nought;
-    opening = nought;
-    release = nought;
-    closing = nought;
+    attack = record { ms = nought; number = nought };
+    release = record { ms = nought; number = nought };
     hold = nought;
     rising = nought;
     falling = nought;
@@ -109,11 +104,10 @@ module _ (s : Settings) (m : Registers) (xs : List Float) where
   abbrev pub openCount : ℕ
   openCount = countAfter (next s) (aim s) m xs
 
--- what is told, and what the buffer for the output holds afterwards; a refusal leaves it as it was
+  -- what is told of them, and what the buffer for the output holds afterwards
+  abbrev pub ran : Told Gate × List Float
+  ran = (doneWith (gateOf s after) openCount nought, outputs)
+
+-- a refusal leaves the buffer as it was
 unfoldable pub block : Gate → List Float → List Float → Told Gate × List Float
-block g xs out =
-    unless (acceptable g) (refused g BadState, out)
-    (unless (eqb (length xs) (length out)) (refused g LengthsDiffer, out)
-    (unless (leb (length xs) longestBlock) (refused g TooLong, out)
-    (unless (leb (length xs) (firstRefused xs)) (refused g (BadSample (firstRefused xs)), out)
-    (doneWith (gateOf (g .settings) (after (g .settings) (g .registers) xs)) (openCount (g .settings) (g .registers) xs) nought, outputs (g .settings) (g .registers) xs))))
+block g xs out = checkedBlock g out (ran (g .settings) (g .registers) xs) (acceptable g) xs

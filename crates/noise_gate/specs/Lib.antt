@@ -1,8 +1,5 @@
--- The noise gate: document 01's figures, what 9 accepts, the calls; a gate carried through calls, and demand 3; rows of the proved table.
+-- The noise gate: document 01's figures, what 9 accepts, what a block tells, the calls.
 pub mod Figures
 pub mod Bounds
 pub mod Answers
 pub mod Calls
-pub mod History
-pub mod Demand3
-pub mod Table

@@ -1,25 +1,25 @@
 // The gate's calls by value: make, set, read, reset, block. A refusal changes nothing.
-use crate::Answer;
 use crate::Answered;
 use crate::Gate;
 use crate::Passage;
-use crate::Passed;
 use crate::Ran;
-use crate::Reading;
-use crate::Registers;
 use crate::bounds;
 use crate::samples;
+use answer::Answer;
+use answer::Check;
 use answer::Decibels;
 use answer::Factor;
+use answer::Reading;
 use answer::Refusal;
-use gate_settings::Named;
-use gate_settings::Setting;
-use gate_settings::Settings;
-ghost use Prim.Native.Nat.{_≤_};
-ghost use lib.ListN.{length};
+use noise_gate_sample::Registers;
+use noise_gate_settings::Named;
+use noise_gate_settings::Setting;
+use noise_gate_settings::Settings;
+use noise_gate_settings::Timed;
 ghost use mathlib.Core.Path.{_≡_};
 ghost use Rattle.answer.specs.Told as Told;
-ghost use Rattle.noise_gate.specs.Answers.{told, toldRead, toldBlock};
+ghost use Rattle.answer.specs.Told.{told, toldRead};
+ghost use Rattle.noise_gate.specs.Answers.{toldBlock};
 ghost use Rattle.noise_gate.specs.Calls as Calls;
 
 // The hold of a made gate, in milliseconds.
@@ -38,10 +38,14 @@ const UNMADE: Gate = Gate {
         threshold: Decibels(0.0),
         factor: Factor(0.0),
         ratio: 0.0,
-        attack: 0.0,
-        opening: 0.0,
-        release: 0.0,
-        closing: 0.0,
+        attack: Timed {
+            ms: 0.0,
+            number: 0.0,
+        },
+        release: Timed {
+            ms: 0.0,
+            number: 0.0,
+        },
         hold: 0.0,
         rising: 0.0,
         falling: 0.0,
@@ -57,10 +61,14 @@ fn made_settings(rate: f32, rising: f32, falling: f32) -> Settings
         threshold: Decibels(0.0),
         factor: Factor(1.0),
         ratio: 10.0,
-        attack: 1.0,
-        opening: 0.0,
-        release: 100.0,
-        closing: 0.0,
+        attack: Timed {
+            ms: 1.0,
+            number: 0.0,
+        },
+        release: Timed {
+            ms: 100.0,
+            number: 0.0,
+        },
         hold: MADE_HOLD,
         rising: rising,
         falling: falling,
@@ -76,23 +84,35 @@ fn refused(g: Gate, r: Refusal) -> Answered
     }
 }
 
+fn unmade(r: Refusal) -> Answered
+    ensures { λ a. ⌜ told (a .gate) (a .answer) ≡ Told.refused Calls.unmade r ⌝ }
+{
+    refused(UNMADE, r)
+}
+
+fn done(s: Settings, m: Registers) -> Answered
+    ensures { λ a. ⌜ told (a .gate) (a .answer) ≡ Told.done (Calls.gateOf s m) ⌝ }
+{
+    Answered {
+        gate: Gate {
+            settings: s,
+            registers: m,
+        },
+        answer: Answer::Done,
+    }
+}
+
 // A gate at rest at that rate, its follower's numbers lent: 5, 4.
 pub fn make(rate: f32, rising: f32, falling: f32) -> Answered
     ensures { λ r. ⌜ told (r .gate) (r .answer) ≡ Calls.make rate rising falling ⌝ }
 {
     if !answer::is_rate(rate) {
-        return refused(UNMADE, Refusal::BadRate);
+        return unmade(Refusal::BadRate);
     }
     if !answer::both(answer::is_smoothing(rising), answer::is_smoothing(falling)) {
-        return refused(UNMADE, Refusal::BadWorkedNumber);
+        return unmade(Refusal::BadWorkedNumber);
     }
-    Answered {
-        gate: Gate {
-            settings: made_settings(rate, rising, falling),
-            registers: AT_REST,
-        },
-        answer: Answer::Done,
-    }
+    done(made_settings(rate, rising, falling), AT_REST)
 }
 
 // A typed setting: 9, 3, 4.
@@ -102,21 +122,16 @@ pub fn set_typed(g: Gate, t: Setting) -> Answered
     if !bounds::acceptable(g) {
         return refused(g, Refusal::BadState);
     }
-    if !gate_settings::in_its_range(t) {
+    if !noise_gate_settings::in_its_range(t) {
         return refused(g, Refusal::OutOfRange);
     }
-    if !gate_settings::worked(t) {
+    if !noise_gate_settings::worked(t) {
         return refused(g, Refusal::BadWorkedNumber);
     }
-    let s = g.settings;
-    let m = g.registers;
-    Answered {
-        gate: Gate {
-            settings: gate_settings::with_setting(s, t),
-            registers: m,
-        },
-        answer: Answer::Done,
-    }
+    done(
+        noise_gate_settings::with_setting(g.settings, t),
+        g.registers,
+    )
 }
 
 // A setting by its name, with a value and a worked number: 9, 1, 3, 4.
@@ -126,7 +141,7 @@ pub fn set(g: Gate, name: &[u8], value: f32, number: f32) -> Answered
     if !bounds::acceptable(g) {
         return refused(g, Refusal::BadState);
     }
-    let Named::Known(t) = gate_settings::find(name, value, number) else {
+    let Named::Known(t) = noise_gate_settings::find(name, value, number) else {
         return refused(g, Refusal::NoSetting);
     };
     set_typed(g, t)
@@ -139,11 +154,10 @@ pub fn read(g: Gate, name: &[u8]) -> Reading
     if !bounds::acceptable(g) {
         return Reading::Refused(Refusal::BadState);
     }
-    let Named::Known(t) = gate_settings::find(name, 0.0, 0.0) else {
+    let Named::Known(t) = noise_gate_settings::find(name, 0.0, 0.0) else {
         return Reading::Refused(Refusal::NoSetting);
     };
-    let s = g.settings;
-    Reading::Done(gate_settings::kept(s, t))
+    Reading::Done(noise_gate_settings::kept(g.settings, t))
 }
 
 // Level, state and counter 0: 9.
@@ -153,23 +167,7 @@ pub fn reset(g: Gate) -> Answered
     if !bounds::acceptable(g) {
         return refused(g, Refusal::BadState);
     }
-    let s = g.settings;
-    Answered {
-        gate: Gate {
-            settings: s,
-            registers: AT_REST,
-        },
-        answer: Answer::Done,
-    }
-}
-
-fn stopped(g: Gate, r: Refusal) -> Ran
-    ensures { λ a. ⌜ toldBlock (a .gate) (a .answer) ≡ Told.refused g r ⌝ }
-{
-    Ran {
-        gate: g,
-        answer: Passage::Refused(r),
-    }
+    done(g.settings, AT_REST)
 }
 
 // A block of samples, and the buffer for its output: 9, 7, 8, 6.
@@ -177,27 +175,17 @@ pub fn block(g: Gate, input: &[f32], output: &mut [f32]) -> Ran
     ensures { λ r. ⌜ (toldBlock (r .gate) (r .answer), now (output .exit)) ≡ Calls.block g (now (input .entry)) (now (output .entry)) ⌝ }
 {
     if !bounds::acceptable(g) {
-        return stopped(g, Refusal::BadState);
+        return Ran {
+            gate: g,
+            answer: Passage::Refused(Refusal::BadState),
+        };
     }
-    if !answer::lengths_agree(input.len(), output.len()) {
-        return stopped(g, Refusal::LengthsDiffer);
+    let found = answer::check_block(input, output.len());
+    if let Check::Refused(r) = found {
+        return Ran {
+            gate: g,
+            answer: Passage::Refused(r),
+        };
     }
-    if !answer::at_most(input.len(), answer::LONGEST_BLOCK) {
-        return stopped(g, Refusal::TooLong);
-    }
-    let place = answer::first_refused(input);
-    if place < input.len() {
-        return stopped(g, Refusal::BadSample(place));
-    }
-    let s = g.settings;
-    let m = g.registers;
-    let moved = samples::run(s, m, input, output);
-    let next = moved.registers;
-    Ran {
-        gate: Gate {
-            settings: s,
-            registers: next,
-        },
-        answer: Passage::Done(Passed { count: moved.count }),
-    }
+    samples::run(g.settings, g.registers, input, output)
 }

@@ -3,6 +3,7 @@ mod bounds;
 mod calls;
 mod samples;
 
+use answer::Answer;
 use answer::Refusal;
 pub use bounds::acceptable;
 pub use calls::block;
@@ -11,29 +12,15 @@ pub use calls::read;
 pub use calls::reset;
 pub use calls::set;
 pub use calls::set_typed;
-pub use gate_sample::Registers;
-pub use gate_sample::Stepped;
-pub use gate_sample::step;
-pub use gate_settings::Setting;
-pub use gate_settings::Settings;
+use noise_gate_sample::Registers;
+pub use noise_gate_settings::Setting;
+use noise_gate_settings::Settings;
 
 // What a host sets, and what a sample moves.
 #[repr(C)]
 pub struct Gate {
     pub settings: Settings,
     pub registers: Registers,
-}
-
-// What making, setting and reset answer.
-pub enum Answer {
-    Done,
-    Refused(Refusal),
-}
-
-// What reading answers.
-pub enum Reading {
-    Done(f32),
-    Refused(Refusal),
 }
 
 // A done block: how many of its samples were aimed open.
@@ -55,10 +42,4 @@ pub struct Answered {
 pub struct Ran {
     pub gate: Gate,
     pub answer: Passage,
-}
-
-// What a block's samples leave, and how many of them were aimed open.
-struct Moved {
-    registers: Registers,
-    count: usize,
 }

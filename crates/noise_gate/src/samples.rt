@@ -1,35 +1,39 @@
 // A block's samples.
-use crate::Moved;
-use gate_sample::Registers;
-use gate_settings::Settings;
+use crate::Gate;
+use crate::Passage;
+use crate::Passed;
+use crate::Ran;
+use noise_gate_sample::Registers;
+use noise_gate_settings::Settings;
 ghost use lib.ListN.{length};
 ghost use mathlib.Core.Path.{_≡_};
-ghost use Rattle.noise_gate.specs.Calls.{after, outputs, openCount};
+ghost use Rattle.noise_gate.specs.Answers.{toldBlock};
+ghost use Rattle.noise_gate.specs.Calls.{ran};
 
 // A block's samples, one after the other.
-pub fn run(s: Settings, m: Registers, input: &[f32], output: &mut [f32]) -> Moved
+pub fn run(s: Settings, m: Registers, input: &[f32], output: &mut [f32]) -> Ran
     requires { ⌜ length (now input) ≡ length (now output) ⌝ }
-    ensures { λ r. ⌜ (r .registers ≡ after s m (now (input .entry)))
-        × (now (output .exit) ≡ outputs s m (now (input .entry)))
-        × (r .count ≡ openCount s m (now (input .entry))) ⌝ }
+    ensures { λ r. ⌜ (toldBlock (r .gate) (r .answer), now (output .exit)) ≡ ran s m (now (input .entry)) ⌝ }
 {
     let mut now = m;
     let mut n: usize = 0;
     let mut i: usize = 0;
     while i < input.len() {
         let before = now;
-        let stepped = gate_sample::step(s, before, input[i]);
-        let next = stepped.registers;
-        let aim = stepped.aim;
+        let stepped = noise_gate_sample::step(s, before, input[i]);
         output[i] = stepped.output;
-        now = next;
-        if aim {
+        let after = stepped.registers;
+        now = after;
+        if stepped.aim {
             n += 1;
         }
         i += 1;
     }
-    Moved {
-        registers: now,
-        count: n,
+    Ran {
+        gate: Gate {
+            settings: s,
+            registers: now,
+        },
+        answer: Passage::Done(Passed { count: n }),
     }
 }

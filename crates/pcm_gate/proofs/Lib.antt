@@ -1,6 +1,2 @@
--- The loop over bytes two at a time, what it leaves, and cutting it.
+-- The loop over bytes two at a time, and what it leaves.
 pub mod Pairs
-pub mod Made
-pub mod Parts
-pub mod Cut
-pub mod Blocks

@@ -1,7 +1,7 @@
 -- The loop that runs a stage over bytes, two at a time: what holds after i of them holds at the start, is kept by a turn, and says at the end that all is done. For any stage over words.
 -- Assumes nothing.
 use mathlib.Core.Path.{_≡_, refl, sym, _∙_}
-use mathlib.Core.Bool.{Bool, true, false}
+use mathlib.Core.Bool.{Bool}
 use mathlib.Core.List.{List, [], _∷_, _++_, append-assoc}
 use Prim.Native.Nat.{ℕ, suc, _+_, _-_, _*_, _/_, _%_, _≤_, _<_}
 use native.Mathlib.Numerals.{add-one}
@@ -9,6 +9,7 @@ use native.Mathlib.Omega.{arith}
 use lib.ListN.{length, take, drop, getD, set, length-set, length-drop, take-append-drop}
 use lib.Seq.{drop-cons, take-suc-set, drop-set-lt}
 use Rattle.fold.specs.Fold.{more, stateAfter, outAfter, countAfter}
+use Rattle.fold.proofs.Block.{more-add, more-le}
 use Rattle.pcm_gate.specs.Bytes.{wordsOf, bytesOf, over}
 
 -- ---- lists, two at a time
@@ -41,11 +42,6 @@ module _ (l : List ℕ) (i a b : ℕ) (h : i + 1 < length l) where
   drop-stored : drop (i + 2) stored ≡ drop (i + 2) l
   drop-stored = drop-set-lt (i + 2) (set l i a) (i + 1) b (omega arith) ∙ drop-set-lt (i + 2) l i a (omega arith)
 
--- n with a sample more, and k with it
-one-more : (b : Bool) (n m k : ℕ) → m ≡ more b n → (m ≤ n + 1) × (m + k ≡ n + more b k)
-one-more true n m k e = (omega arith, omega arith)
-one-more false n m k e = (omega arith, omega arith)
-
 module _ {S : Type 0} (next : S → ℕ → S) (out : S → ℕ → ℕ) (test : S → ℕ → Bool) where
   -- after i bytes of input the state is s, the first i bytes of output are written, and n samples passed the test: what is left of input does the rest
   pub record Upto (s₀ : S) (input output₀ : List ℕ) (s : S) (output : List ℕ) (n i : ℕ) : Type 0 where
@@ -69,14 +65,15 @@ module _ {S : Type 0} (next : S → ℕ → S) (out : S → ℕ → ℕ) (test :
     onward t w m same h et ew em =
         let two = words-two input i h in
         let room : 1 < length output - i = omega (arith, u .long) in
-        let counted = one-more (test s (getD input i 0 + getD input (i + 1) 0 * 0x100)) n m (countAfter next test t (wordsOf (drop (i + 2) input))) em in
+        let passes = test s (getD input i 0 + getD input (i + 1) 0 * 0x100) in
+        let few : m ≤ i + 1 = rw em (more-le passes n i (u .few)) in
         record {
           within = omega arith;
           long = length-set (set output i (w % 0x100)) (i + 1) (w / 0x100) ∙ length-set output i (w % 0x100) ∙ u .long;
-          few = omega (arith, counted .0);
+          few = omega (arith, few);
           state = rw et (rw two at (u .state));
           outs = rw (take-stored output i (w % 0x100) (w / 0x100) (omega arith), drop-stored output i (w % 0x100) (w / 0x100) (omega arith), append-assoc, et, ew) (rw (two, drop-two output i room) at (u .outs));
-          count = counted .1 ∙ rw et (rw two at (u .count));
+          count = rw em (more-add passes n (countAfter next test t (wordsOf (drop (i + 2) input))) ∙ rw et (rw two at (u .count)));
         }
 
     pub ended : length input - i ≤ 1 → (s ≡ stateAfter next s₀ (wordsOf input)) × (output ≡ over (bytesOf (outAfter next out s₀ (wordsOf input))) output₀) × (n ≡ countAfter next test s₀ (wordsOf input))

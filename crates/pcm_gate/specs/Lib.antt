@@ -2,4 +2,3 @@
 pub mod Bytes
 pub mod Pass
 pub mod Program
-pub mod Table

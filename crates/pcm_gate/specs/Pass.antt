@@ -10,9 +10,9 @@ use Rattle.answer.specs.Told.{Told, refused, doneWith, unless}
 use Rattle.answer.specs.declared.Refusal.the-variants.{LengthsDiffer, BadState}
 use Rattle.fold.specs.Fold.{stateAfter, outAfter, countAfter}
 use Rattle.pcm.specs.Samples.{sampleOf, wordOf, heard, written}
-use Rattle.gate_sample.specs.Step as Step
-use Rattle.gate_settings.specs.declared.Settings.{Settings}
-use Rattle.gate_sample.specs.declared.Registers.{Registers}
+use Rattle.noise_gate_sample.specs.Step as Step
+use Rattle.noise_gate_settings.specs.declared.Settings.{Settings}
+use Rattle.noise_gate_sample.specs.declared.Registers.{Registers}
 use Rattle.noise_gate.specs.Bounds.{acceptable}
 use Rattle.noise_gate.specs.Calls.{gateOf}
 use Rattle.noise_gate.specs.declared.Gate.{Gate}

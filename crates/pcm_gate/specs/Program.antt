@@ -4,8 +4,8 @@ use Prim.Native.Nat.{ℕ}
 use mathlib.Core.List.{List}
 use lib.Ieee.{neg}
 use Rattle.answer.specs.Figures.{f32, nought, one}
-use Rattle.gate_settings.specs.declared.Setting.{Setting}
-use Rattle.gate_settings.specs.declared.Setting.the-variants.{Threshold, Ratio, Attack, Release, Hold}
+use Rattle.noise_gate_settings.specs.declared.Setting.{Setting}
+use Rattle.noise_gate_settings.specs.declared.Setting.the-variants.{Threshold, Ratio, Attack, Release, Hold}
 use Rattle.noise_gate.specs.Calls.{make, setTyped}
 use Rattle.noise_gate.specs.declared.Gate.{Gate}
 use Rattle.pcm_gate.specs.Pass.{outputs}

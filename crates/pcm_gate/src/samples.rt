@@ -1,6 +1,6 @@
 // Samples one after the other, each a word of two bytes, the lower byte first.
-use gate_sample::Registers;
-use gate_settings::Settings;
+use noise_gate_sample::Registers;
+use noise_gate_settings::Settings;
 ghost use Prim.Native.Nat.{_+_, _*_};
 ghost use lib.ListN.{length};
 ghost use mathlib.Core.Path.{_≡_};
@@ -29,7 +29,7 @@ fn word(low: u8, high: u8) -> u16
 fn turn(s: Settings, m: Registers, word: u16) -> Turned
     ensures { λ r. ⌜ (r .registers ≡ Pass.next s m word) × (r .word ≡ Pass.output s m word) × (r .aim ≡ Pass.aim s m word) ⌝ }
 {
-    let stepped = gate_sample::step(s, m, pcm::heard(word));
+    let stepped = noise_gate_sample::step(s, m, pcm::heard(word));
     let next = stepped.registers;
     Turned {
         registers: next,

@@ -2,23 +2,21 @@
 use mathlib.Core.Path.{_≡_, refl, sym, ap, _∙_, subst}
 use mathlib.Core.Logic.{_⊎_, inl, inr}
 use Prim.Native.Nat.{ℕ, zero, suc, _+_, _-_, _*_, _/_, _%_, _^_, _≤_, _<_, min}
-use native.Mathlib.Nat.{lt-of-lt-of-le, mul-comm, mul-one, mul-assoc, mul-left-comm, add-mul, mul-pos, le-mul-of-pos-right, mod-lt, mod-mod, mod-mod-of-dvd, dvd-mul-right, div-add-mod', div-eq-of-lt, le-div-iff-mul-le, eq-zero-or-pos}
+use native.Mathlib.Nat.{lt-of-lt-of-le, mul-comm, mul-one, mul-assoc, add-mul, mul-pos, le-mul-of-pos-right, mod-lt, mod-mod, mod-mod-of-dvd, dvd-mul-right, div-add-mod', div-eq-of-lt, le-div-iff-mul-le, eq-zero-or-pos}
 use native.Mathlib.Omega.{arith}
 use mathlib.Core.Bool.{Bool, true, false, not, cond, true≢false}
 use lib.IntN.{pos}
 use lib.Dec.{T, leb, ltb, eqb, lt→ltb, nltb→le}
 use lib.Arith.{lt→nleb}
 use lib.Pow.{pow-add, pow-pos, pow-mono}
-use lib.Ieee.{Float, nan, inf, fin, Format, binary32, binary64, prec, low, hid, ones, top, up, down, size, round, odd, ofFields, ofBits, toBits, fits, isNan, nanBits, lt, ne, div, toUnsigned}
+use lib.Ieee.{Float, nan, inf, fin, Format, binary32, binary64, prec, low, hid, ones, top, up, down, size, round, odd, ofFields, ofBits, toBits, fits, isNan, nanBits, lt, div, toUnsigned}
 use lib.Ieee.Bits.{is-false, ofBits-toBits, nanBits-is, nanBits-above}
-use lib.Ieee.Compare.{differs-from-itself, nan-differs}
 use lib.Ieee.Exact.{HasValue}
 use lib.Ieee.Fits.{down-pos}
 use lib.Ieee.Nearest.{closest, closest-same}
 use lib.Ieee.Scale.{round-same, finite}
 use Rattle.rounding.specs.Steps.{significand, pattern}
 use Rattle.rounding.specs.Casts.{narrow, absolute}
-use Rattle.rounding.proofs.Nan.{is-nan, not-nan}
 use Rattle.rounding.proofs.Closest.{le-or-lt, closest-down, closest-tie, closest-up}
 use Rattle.rounding.proofs.Round.{dropped}
 use Rattle.rounding.proofs.Pattern.{round-bits, round-63}
@@ -99,7 +97,7 @@ full s m k a b =
     ∙ round-63 binary32 s (m * 1024) k 935 (omega arith) (omega arith)
   where
     shuffle : (a b c d : ℕ) → a * b * (c * d) ≡ a * c * b * d
-    shuffle a b c d = simp (mul-assoc, mul-comm, mul-left-comm)
+    shuffle a b c d = simp (mul-assoc, mul-comm)
 
 size-zero : size 0 ≡ 0
 unfolding size

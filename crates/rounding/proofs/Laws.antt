@@ -1,6 +1,6 @@
 -- The rounding laws, once for any format. A size is counted in units of the format's smallest value, of which 1.0 has `U f`; a number of at most prec digits and then zeros is one that the format keeps (`Rep`).
 -- Assumes nothing.
-use mathlib.Core.Path.{_≡_, ap, _∙_}
+use mathlib.Core.Path.{_≡_}
 use Prim.Native.Nat.{ℕ, _+_, _*_, _^_, _≤_, _<_}
 use mathlib.Core.Bool.{Bool, false}
 use lib.IntN.{ℤ}

@@ -1,6 +1,6 @@
 -- What the shared steps compute on a machine's numbers of 64 digits is what `specs/Steps.antt` says. Assumes nothing.
 use mathlib.Core.Path.{_≡_, refl, sym, ap, _∙_, subst}
-use mathlib.Core.Logic.{_⊎_, inl, inr}
+use mathlib.Core.Logic.{inl, inr}
 use Prim.Native.Nat.{ℕ, zero, suc, _+_, _-_, _*_, _/_, _%_, _^_, _≤_, _<_, compare}
 use native.Mathlib.Nat.{le-trans, le-of-eq, lt-of-lt-of-le, lt-of-le-of-lt, lt-of-not-le, not-le-of-lt, mul-assoc, one-mul, suc-mul, mul-le-mul-right, mod-lt, mul-add-div-right, mod-eq-of-lt, div-eq-of-lt, div-add-mod', pow-succ'}
 use native.Mathlib.Omega.{arith}
@@ -20,9 +20,6 @@ use Rattle.rounding.proofs.Pattern.{nothing-left}
 -- ---- 1 << k
 pub one-shl : (k : ℕ) → k ≤ 63 → 1 * 2 ^ k % 18446744073709551616 ≡ 2 ^ k
 one-shl k h = ap (λ (x : ℕ). x % 18446744073709551616) (one-mul (2 ^ k)) ∙ mod-eq-of-lt (lt-of-le-of-lt (pow-mono {i = k} {j = 63} h) (omega arith))
-
-pub pow-most : (k m : ℕ) → k ≤ m → 2 ^ k ≤ 2 ^ m
-pow-most k m h = pow-mono h
 
 pub under-pow : (a s : ℕ) → a < 2 ^ 64 → 63 < s → a < 2 ^ s
 under-pow a s h k = lt-of-lt-of-le h (pow-mono {i = 64} {j = s} (omega arith))

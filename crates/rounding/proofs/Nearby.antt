@@ -1,7 +1,7 @@
 -- `fma` of three normal values whose two terms are taken whole. Assumes nothing.
 use mathlib.Core.Path.{_≡_, refl, sym, ap, _∙_, subst}
 use Prim.Native.Nat.{ℕ, zero, suc, _+_, _-_, _*_, _/_, _%_, _^_, _≤_, _<_, min}
-use native.Mathlib.Nat.{mul-comm, mul-assoc, mul-left-comm, mod-eq-of-lt, mod-mod-of-dvd, dvd-mul-right}
+use native.Mathlib.Nat.{mul-assoc, mul-left-comm, mod-eq-of-lt, mod-mod-of-dvd, dvd-mul-right}
 use native.Mathlib.Omega.{arith}
 use mathlib.Core.Bool.{Bool, cond}
 use lib.Dec.{T, leb, eqb, eqb→eq, not-T}
@@ -60,10 +60,10 @@ module _ (f : Format) (a b c : ℕ) (fa : T (finite (ofBits f a))) (fb : T (fini
       (ap (λ (x : ℕ). q * 2 ^ i * x) (pow-add 2 l l) ∙ two q (2 ^ i) (2 ^ l) ∙ ap (λ (x : ℕ). x * 2 ^ l) (sym W))
     where
       one : (m x n y z : ℕ) → m * x * (n * y) * (z * z) ≡ m * n * (x * y) * (z * z)
-      one m x n y z = simp (mul-assoc, mul-comm, mul-left-comm)
+      one m x n y z = simp (mul-assoc, mul-left-comm)
 
       two : (q x z : ℕ) → q * x * (z * z) ≡ q * (x * z) * z
-      two q x z = simp (mul-assoc, mul-comm, mul-left-comm)
+      two q x z = simp mul-assoc
 
 -- the same, from `Near`
 pub near-whole : (f : Format) (a b c g u v : ℕ) → Near f a b c g → u ≡ significand (hid f) (a % top f) * significand (hid f) (b % top f) → v ≡ significand (hid f) (c % top f) * 2 ^ g

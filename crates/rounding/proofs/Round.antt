@@ -2,7 +2,7 @@
 use mathlib.Core.Path.{_≡_, refl, sym, ap, _∙_, subst}
 use mathlib.Core.Logic.{_⊎_, inl, inr}
 use Prim.Native.Nat.{ℕ, suc, _+_, _-_, _*_, _/_, _^_, _≤_, _<_}
-use native.Mathlib.Nat.{le-trans, le-of-eq, le-antisymm, lt-of-le-of-lt, lt-of-not-le, not-le-of-lt, mul-comm, mul-assoc, mul-left-comm, mul-le-mul-right, lt-of-mul-lt-mul-right, mul-lt-mul-of-pos-right, mul-pos, mul-div-mul-right, div-lt-iff-lt-mul, pow-succ'}
+use native.Mathlib.Nat.{le-trans, le-of-eq, le-antisymm, lt-of-le-of-lt, lt-of-not-le, not-le-of-lt, mul-assoc, mul-left-comm, mul-le-mul-right, lt-of-mul-lt-mul-right, mul-lt-mul-of-pos-right, mul-pos, mul-div-mul-right, div-lt-iff-lt-mul, pow-succ'}
 use native.Mathlib.Omega.{arith}
 use mathlib.Core.Bool.{Bool}
 use lib.Pow.{pow-add, pow-pos, pow-mono}
@@ -24,7 +24,7 @@ round-units f s a d =
     let l = low f in
     let e : a * 2 ^ l / 2 ^ (d + l) ≡ a / 2 ^ d = ap (λ (x : ℕ). a * 2 ^ l / x) (pow-add 2 d l) ∙ mul-div-mul-right a (2 ^ d) (pow-pos l) in
     let k = size (a / 2 ^ d) - prec f in
-    let same : a * 2 ^ l * (2 ^ d * 2 ^ k) ≡ a * (2 ^ (d + l) * 2 ^ k) = simp (pow-add, mul-assoc, mul-comm, mul-left-comm) in
+    let same : a * 2 ^ l * (2 ^ d * 2 ^ k) ≡ a * (2 ^ (d + l) * 2 ^ k) = simp (pow-add, mul-assoc, mul-left-comm) in
     round-is f s a (2 ^ (d + l))
     ∙ ap (λ (x : ℕ). core f s (a * 2 ^ l) (2 ^ (d + l)) (size x - prec f)) e
     ∙ ap (λ (x : ℕ). units f s x k) (closest-same (a * 2 ^ l) (2 ^ (d + l) * 2 ^ k) a (2 ^ d * 2 ^ k) (mul-pos (pow-pos (d + l)) (pow-pos k)) (mul-pos (pow-pos d) (pow-pos k)) same)

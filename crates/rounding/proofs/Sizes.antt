@@ -1,19 +1,18 @@
 -- Floats that are finite and not below zero (`plus`: -0 is one), by their sizes in units: their order is the sizes', and an operation on them is `snap` on sizes. Assumes nothing.
 use mathlib.Core.Path.{_≡_, refl, sym, ap, _∙_, subst}
 use mathlib.Core.Logic.{_⊎_, inl, inr}
-use Prim.Native.Nat.{ℕ, zero, suc, _+_, _-_, _*_, _^_, _≤_, _<_, zero-le}
-use native.Mathlib.Nat.{le-refl, le-trans, le-of-eq, le-of-lt, lt-of-lt-of-le, lt-of-le-of-lt, lt-of-not-le, not-le-of-lt, lt-irrefl, eq-or-lt-of-le, eq-zero-or-pos, zero-mul, mul-zero, mul-one, mul-comm, mul-assoc, mul-left-comm, mul-le-mul-right, le-of-mul-le-mul-right, mul-pos, sub-add-cancel, add-le-add, mul-le-mul}
+use Prim.Native.Nat.{ℕ, _+_, _-_, _*_, _≤_, _<_}
+use native.Mathlib.Nat.{le-of-eq, le-of-lt, lt-of-lt-of-le, lt-of-le-of-lt, lt-of-not-le, not-le-of-lt, lt-irrefl, eq-or-lt-of-le, eq-zero-or-pos, zero-mul, mul-zero, mul-one, mul-le-mul-right, le-of-mul-le-mul-right, mul-pos, sub-add-cancel, add-le-add, mul-le-mul}
 use native.Mathlib.Omega.{arith}
-use mathlib.Core.Bool.{Bool, true, false, not, _&&_, _||_, cond, Bool·beq}
-use lib.IntN.{ℤ, pos, negsuc, _+ℤ_}
-use lib.Dec.{T, not-T, leb, ltb, eqb, leb→le, ltb→lt, nltb→le, lt→ltb, eqb→eq}
+use mathlib.Core.Bool.{Bool, true, false, not, _&&_, _||_, cond}
+use lib.IntN.{ℤ, _+ℤ_}
+use lib.Dec.{T, not-T, ltb, eqb, ltb→lt, nltb→le, lt→ltb, eqb→eq}
 use lib.Arith.{le→nltb}
 use lib.Pow.{pow-pos}
 use lib.Ieee.{Float, nan, inf, fin, Format, prec, up, down, unlike, below, level, round, sum, mul, sub, div, le, lt, fits}
-use lib.Ieee.Digits.{Equals}
-use lib.Ieee.Fits.{add-fits, and-i, and-l, and-r, eq→eqb, down-pos, up-pos}
+use lib.Ieee.Fits.{add-fits, and-i, and-l, eq→eqb, down-pos, up-pos}
 use lib.Ieee.Exact.{HasValue}
-use lib.Ieee.Bits.{is-false, is-true, cond-no}
+use lib.Ieee.Bits.{is-false}
 use lib.Ieee.Scale.{overflow}
 use lib.Ieee.Positive.{first-pos}
 use Rattle.rounding.proofs.Snap.{Rep, snap, snap-zero, snap-mono, snap-below, snap-above}
@@ -39,9 +38,6 @@ or-r false b t = t
 or-split : (a b : Bool) → T (a || b) → T a ⊎ T b
 or-split true b t = inl tt
 or-split false b t = inr t
-
-is-zero : (a : ℕ) → a ≤ 0 → a ≡ 0
-is-zero a h = omega arith
 
 at-or-above : (a b : ℕ) → a ≡ 0 → a ≤ b
 at-or-above a b e = omega arith

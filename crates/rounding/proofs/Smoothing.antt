@@ -1,23 +1,23 @@
 -- A value moved towards another by a smoothing number, rounding included, for either format: closing falls, opening never falls and stays at most 1, the gain is at most 1, the follower stays within 64.
 -- Each is a fact of `Towards` on the sizes. Assumes nothing.
 use mathlib.Core.Path.{_≡_, refl, sym, ap, _∙_, subst}
-use mathlib.Core.Logic.{_⊎_, inl, inr}
+use mathlib.Core.Logic.{inl, inr}
 use Prim.Native.Nat.{ℕ, zero, suc, _+_, _-_, _*_, _^_, _≤_, _<_, zero-le}
-use native.Mathlib.Nat.{le-refl, le-trans, le-of-eq, le-of-lt, le-antisymm, eq-or-lt-of-le, lt-of-lt-of-le, lt-of-le-of-lt, sub-le, zero-mul, one-mul, mul-one, mul-comm, mul-le-mul-right, mul-le-mul-left}
+use native.Mathlib.Nat.{le-trans, le-of-eq, eq-or-lt-of-le, lt-of-lt-of-le, lt-of-le-of-lt, sub-le, zero-mul, one-mul, mul-one, mul-comm, mul-le-mul-right, mul-le-mul-left}
 use native.Mathlib.Omega.{arith}
-use mathlib.Core.Bool.{Bool, true, false, not, _&&_, _||_, cond}
+use mathlib.Core.Bool.{true, false}
 use lib.IntN.{ℤ, pos, negsuc}
-use lib.Dec.{T, ltb, eqb, eqb→eq, lit<, lit≤}
-use lib.Pow.{pow-add, pow-pos}
-use lib.Ieee.{eq, Float, nan, inf, fin, Format, binary32, binary64, prec, low, emax, up, down, size, round, sum, mul, sub, div, le, lt, fits}
-use lib.Ieee.Fits.{div-fits, sub-fits, eq→eqb, and-l, and-r, down-pos, up-pos}
+use lib.Dec.{T, eqb, eqb→eq, lit<}
+use lib.Pow.{pow-pos}
+use lib.Ieee.{eq, Float, nan, inf, fin, Format, binary32, binary64, prec, low, emax, up, down, size, mul, sub, div, le, lt, fits}
+use lib.Ieee.Fits.{div-fits, eq→eqb, and-l, and-r, down-pos, up-pos}
 use lib.Ieee.Scale.{overflow, finite}
-use Rattle.rounding.proofs.Snap.{snap, Rep, snap-mono, snap-rep, snap-below, snap-is-rep, rep-pow, rep-scale}
+use Rattle.rounding.proofs.Snap.{snap, Rep, snap-rep, snap-below, rep-pow, rep-scale}
 use Rattle.rounding.proofs.Towards.{D, D-rep, closes, closes-strictly, opens, opens-within, mixes-within, stays-open}
 use Rattle.rounding.proofs.Units.{gap, U, U-is, prec-pos, Size, held}
 use Rattle.rounding.specs.Fma.{fma}
 use Rattle.rounding.specs.Casts.{absolute}
-use Rattle.rounding.proofs.Sizes.{plus, le-i, or-l, no-size, At, le-of-sizes, lt-of-sizes, sizes-of-le, sizes-of-lt, mul-size, mul-at, fma-at, sub-at, div-at, fma-fits, at-unique}
+use Rattle.rounding.proofs.Sizes.{plus, le-i, or-l, no-size, At, le-of-sizes, lt-of-sizes, sizes-of-le, sizes-of-lt, mul-size, mul-at, fma-at, sub-at, div-at, fma-fits}
 
 -- ---- closed facts of the formats
 top : (f : Format) → snap (prec f) (2 ^ 0 * (2 ^ (prec f + gap f) * 2 + 2 ^ gap f)) 2 ≡ 2 ^ 0 * 2 ^ (prec f + gap f)
@@ -158,13 +158,6 @@ module _ (f : Format) (c s y z : Float) (b : ℕ) (ic : In f one c) (is : In f y
       lt-of-sizes f (fma f c s z) s (snap (prec f) (cs .at * ss .at) (U f)) (ss .at) (r .0) (ss .is .0) (r .1) (ss .is .1)
       (closes-strictly (prec f) (gap f) (prec-pos f) (cs .at) (ss .at) (cs .rep) (sizes-of-lt f c one (cs .at) (U f) (cs .is .0) tt (cs .is .1) (one-at f .1) l) (sizes-of-lt f (tiny f) s (2 ^ (prec f - 1)) (ss .at) tt (ss .is .0) (tiny-at f .1) (ss .is .1) g))
 
-module _ (f : Format) (c s y : Float) (b : ℕ) (ic : In f one c) (is : In f y s) (ay : At f y b) where
-  pub closing : Within s (fma f c s nought)
-  closing = closing-to f c s y nought b ic is ay (nought-at f)
-
-  pub closing-strictly : T (lt c one) → T (lt (tiny f) s) → T (lt (fma f c s nought) s)
-  closing-strictly = closing-to-strictly f c s y nought b ic is ay (nought-at f)
-
 -- ---- 1 - c
 unit-fine : (f : Format) (n : ℕ) → n ≤ 2 ^ 6 * U f → n < overflow f
 unit-fine f n h = lt-of-le-of-lt h (room f)
@@ -208,14 +201,6 @@ module _ (f : Format) (c s : Float) (ic : In f one c) (is : In f one s) where
       let ss = sized f s one (U f) is (one-at f) in
       within f (fma f c s (mul f (sub f one c) one)) one (snap (prec f) (cs .at * ss .at + rest f (cs .at) * U f) (U f)) (U f) (opening-at cs ss) (one-at f) (opens-le f (cs .at) (ss .at) (cs .most) (ss .most))
 
-  pub opening-up : T (lt s one) → T (le s (fma f c s (mul f (sub f one c) one)))
-  opening-up l =
-      let cs = sized f c one (U f) ic (one-at f) in
-      let ss = sized f s one (U f) is (one-at f) in
-      let r = opening-at cs ss in
-      le-of-sizes f s (fma f c s (mul f (sub f one c) one)) (ss .at) (snap (prec f) (cs .at * ss .at + rest f (cs .at) * U f) (U f)) (ss .is .0) (r .0) (ss .is .1) (r .1)
-      (opens (prec f) (gap f) (prec-pos f) (cs .at) (ss .at) (cs .most) (ss .rep) (sizes-of-lt f s one (ss .at) (U f) (ss .is .0) tt (ss .is .1) (one-at f .1) l))
-
 -- and at 1 it stays, so it never falls
 opens-all : (f : Format) (c s : ℕ) → c ≤ U f → s ≤ U f → Rep (prec f) s → s ≤ snap (prec f) (c * s + rest f c * U f) (U f)
 opens-all f c s h k r = elim (eq-or-lt-of-le k) [
@@ -246,16 +231,6 @@ one-fits binary64 = tt
 pub one-in : (f : Format) → In f one one
 unfolding le
 one-in f = record { fit = one-fits f; above = tt; below = tt }
-
-abbrev one-sized : (f : Format) → Sized f one (U f)
-one-sized f = record { at = U f; rep = rep-pow (prec f) (prec f + gap f) (prec-pos f); fine = unit-fine f (U f) (unit-le f (U f) (le-refl (U f))); most = le-refl (U f); is = one-at f }
-
-pub stays-at-one : (f : Format) (c : Float) → In f one c → fma f c one (mul f (sub f one c) one) ≡ one
-stays-at-one f c ic =
-    let cs = sized f c one (U f) ic (one-at f) in
-    let n = snap (prec f) (cs .at * U f + rest f (cs .at) * U f) (U f) in
-    let e : n ≡ U f = le-antisymm (opens-le f (cs .at) (U f) (cs .most) (le-refl (U f))) (stays-open (prec f) (gap f) (prec-pos f) (bottom f) (cs .at) (cs .most)) in
-    at-unique f (fma f c one (mul f (sub f one c) one)) one (U f) (fma-fits f c one (mul f (sub f one c) one)) (one-fits f) (rw e at (opening-at f c one ic (one-in f) cs (one-sized f))) (one-at f) (pow-pos (prec f + gap f))
 
 -- ---- g = 1 / ratio, and the gain (1 - g) * s + g
 mixes-le : (f : Format) (c s : ℕ) → c ≤ U f → s ≤ U f → snap (prec f) (rest f c * s + c * U f) (U f) ≤ U f
@@ -317,22 +292,6 @@ follower f c v x ic iv ix =
     let n = snap (prec f) (cs .at * vs .at + q * U f) (U f) in
     let t : n ≤ 2 ^ 6 * U f = opens-within (prec f) (gap f) (prec-pos f) 6 (top64 f) (cs .at) (vs .at) q (cs .most) (vs .most) b in
     within f (fma f c v (mul f (sub f one c) x)) sixty-four n (2 ^ 6 * U f) (fma-at f c v (mul f (sub f one c) x) (cs .at) (vs .at) q (cs .is) (vs .is) m (unit-fine f n t)) (sixty-four-at f) t
-
--- ---- with no sum, a product: c * s for a c in [0, 1]
-pub scaling : (f : Format) (c s y : Float) (b : ℕ) → In f one c → In f y s → At f y b → Within s (mul f c s)
-scaling f c s y b ic is ay =
-    let cs = sized f c one (U f) ic (one-at f) in
-    let ss = sized f s y b is ay in
-    let n = snap (prec f) (cs .at * ss .at) (U f) in
-    let l : n ≤ ss .at = closes (prec f) (gap f) (prec-pos f) (cs .at) (ss .at) (ss .rep) (cs .most) in
-    within f (mul f c s) s n (ss .at) (mul-at f c s (cs .at) (ss .at) (cs .is) (ss .is) (lt-of-le-of-lt l (ss .fine))) (ss .is) l
-
--- 1 - c is in [0, 1] with c
-pub rest-in : (f : Format) (c : Float) → In f one c → In f one (sub f one c)
-rest-in f c ic =
-    let cs = sized f c one (U f) ic (one-at f) in
-    let w = within f (sub f one c) one (rest f (cs .at)) (U f) (rest-at f c (cs .at) (cs .is) (cs .most)) (one-at f) (D-le f (cs .at)) in
-    record { fit = sub-fits f one c; above = w .above; below = w .below }
 
 -- what a step leaves is in [0, y] again, and fits
 pub again : (f : Format) (y a b c : Float) → Within y (fma f a b c) → In f y (fma f a b c)

@@ -1,13 +1,10 @@
 -- `snap p n d`: the fraction n / d rounded to a number of at most p digits and then zeros, a tie to the even one. `round` does this with its fraction in units of the format's smallest value.
 -- `Rep p m`: m is such a number. snap keeps the order, keeps what is such a number, and is off by half a step at most. Nothing here is about floats. Assumes nothing.
 use mathlib.Core.Path.{_≡_, refl, sym, ap, _∙_, subst}
-use mathlib.Core.Logic.{_⊎_, inl, inr}
+use mathlib.Core.Logic.{inl, inr}
 use Prim.Native.Nat.{ℕ, zero, suc, _+_, _-_, _*_, _/_, _%_, _^_, _≤_, _<_, zero-le, compare, Ordering, Ordering·lt, Ordering·eq, Ordering·gt, compare·zero-suc}
-use native.Mathlib.Nat.{le-refl, le-trans, le-of-eq, le-of-lt, le-antisymm, lt-irrefl, lt-of-lt-of-le, lt-of-le-of-lt, lt-of-not-le, not-le-of-lt, eq-or-lt-of-le, mul-one, one-mul, zero-mul, mul-comm, mul-assoc, mul-left-comm, mul-right-comm, mul-le-mul-right, mul-le-mul-left, mul-pos, mul-lt-mul-of-pos-right, mul-mod-left, mul-div-cancel, mod-lt, div-add-mod', le-div-iff-mul-le, div-lt-iff-lt-mul, div-div-eq-div-mul, le-of-mul-le-mul-right, lt-of-mul-lt-mul-right, pow-suc}
+use native.Mathlib.Nat.{le-trans, le-of-eq, le-of-lt, le-antisymm, lt-irrefl, lt-of-lt-of-le, lt-of-le-of-lt, lt-of-not-le, not-le-of-lt, eq-or-lt-of-le, mul-one, one-mul, zero-mul, mul-comm, mul-assoc, mul-left-comm, mul-le-mul-right, mul-le-mul-left, mul-pos, mul-lt-mul-of-pos-right, mul-mod-left, mul-div-cancel, mod-lt, div-add-mod', le-div-iff-mul-le, div-lt-iff-lt-mul, div-div-eq-div-mul, lt-of-mul-lt-mul-right}
 use native.Mathlib.Omega.{arith}
-use mathlib.Core.Bool.{Bool, true, false, not}
-use lib.Dec.{T, leb, isLe, isEq, eqb, leb→le, nleb→lt, eqb→eq, eqb-refl}
-use lib.Arith.{lt-of-le-ne}
 use lib.Pow.{pow-add, pow-pos, pow-mono, shl-lt}
 use lib.Ieee.{nearest, size}
 use lib.Ieee.Digits.{size-lt, size-le, size-reaches}

@@ -1,12 +1,10 @@
 -- A number that stands for a fraction to an odd number. `Sticky N A g`: N is A / g where that is whole, and otherwise the odd one of the two whole numbers next to it.
 -- Such an N rounds as A / g does, to any multiple of 4 (`closest-sticky`), and adding or taking off an even number keeps it so. Assumes nothing.
 use mathlib.Core.Path.{_≡_, refl, sym, ap, _∙_, subst}
-use mathlib.Core.Logic.{_⊎_, inl, inr}
+use mathlib.Core.Logic.{inl, inr}
 use Prim.Native.Nat.{ℕ, zero, suc, _+_, _-_, _*_, _/_, _%_, _≤_, _<_}
 use native.Mathlib.Nat.{le-trans, le-of-eq, mul-comm, mul-assoc, mul-left-comm, add-mul, mul-add, mul-sub, one-mul, mul-le-mul-right, mul-lt-mul-of-pos-right, mul-pos, mod-lt, div-add-mod'}
 use native.Mathlib.Omega.{arith}
-use mathlib.Core.Bool.{Bool, true, false, not}
-use lib.Dec.{T, leb, leb→le, nleb→lt}
 use lib.Ieee.Nearest.{closest, closest-same}
 use Rattle.rounding.specs.Steps.{Sticky}
 use Rattle.rounding.proofs.Closest.{le-or-lt, closest-down, closest-up}

@@ -1,7 +1,7 @@
 -- `fma` of three finite values by their bit patterns: the sum of two terms at one exponent, the lesser cut to an odd number. Once for both formats. Assumes nothing.
 use mathlib.Core.Path.{_≡_, refl, sym, ap, _∙_, subst}
 use mathlib.Core.Logic.{_⊎_, inl, inr}
-use Prim.Native.Nat.{ℕ, zero, _+_, _-_, _*_, _/_, _%_, _^_, _≤_, _<_, min, max}
+use Prim.Native.Nat.{ℕ, _+_, _-_, _*_, _/_, _%_, _^_, _≤_, _<_, min, max}
 use native.Mathlib.Nat.{le-trans, le-of-eq, lt-of-le-of-lt, mul-comm, mul-one, zero-mul, mul-assoc, mul-left-comm, mul-right-comm, mul-le-mul, add-mul, mul-sub, mul-lt-mul-of-pos-right, mul-pos, mod-lt, eq-zero-or-pos, zero-div, zero-add, add-mod-left, mod-eq-of-lt}
 use native.Mathlib.Omega.{arith}
 use mathlib.Core.Bool.{Bool, true, false, not, cond, Bool·beq, true≢false}
@@ -111,7 +111,7 @@ term-x f m n j k x e =
     one = ap (λ (z : ℕ). z * (2 ^ lift f * (2 ^ low f * 2 ^ low f))) (shuffle m (2 ^ j) n (2 ^ k))
       where
         shuffle : (a b c d : ℕ) → a * b * (c * d) ≡ a * c * (b * d)
-        shuffle a b c d = simp (mul-assoc, mul-comm, mul-left-comm)
+        shuffle a b c d = simp (mul-assoc, mul-left-comm)
 
     two : m * n * 2 ^ x * (2 ^ lift f * (2 ^ low f * 2 ^ low f)) ≡ m * n * 2 ^ lift f * 2 ^ x * (2 ^ low f * 2 ^ low f)
     two = sym (mul-assoc (m * n * 2 ^ x) (2 ^ lift f) (2 ^ low f * 2 ^ low f)) ∙ ap (λ (z : ℕ). z * (2 ^ low f * 2 ^ low f)) (mul-right-comm (m * n) (2 ^ x) (2 ^ lift f))
@@ -123,7 +123,7 @@ term-c f m k =
     ∙ ap (λ (z : ℕ). m * 2 ^ lift-c f * z * 2 ^ low f) (sym (pow-add 2 k (start f)))
   where
     shuffle : (a b c d e : ℕ) → a * b * (c * d * e) ≡ a * c * (b * d) * e
-    shuffle a b c d e = simp (mul-assoc, mul-comm, mul-left-comm)
+    shuffle a b c d e = simp (mul-assoc, mul-left-comm)
 
 -- ---- the theorem, by patterns
 module _ (f : Format) (a b c : ℕ) (fa : T (finite (ofBits f a))) (fb : T (finite (ofBits f b))) (fc : T (finite (ofBits f c))) where

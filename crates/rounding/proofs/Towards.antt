@@ -1,18 +1,15 @@
 -- c * s + (1 - c) * t on whole numbers of units, for any precision p. U, which is 2 ^ (p + j), stands for 1.0, so a value x is x * U units, and a product of two values is a * b / U units.
 -- D c is 1 - c rounded. Assumes nothing.
-use mathlib.Core.Path.{_≡_, refl, sym, ap, _∙_, subst}
-use mathlib.Core.Logic.{_⊎_, inl, inr}
-use Prim.Native.Nat.{ℕ, zero, suc, _+_, _-_, _*_, _^_, _≤_, _<_}
-use native.Mathlib.Nat.{le-refl, le-trans, le-of-eq, le-of-lt, lt-of-lt-of-le, lt-of-le-of-lt, lt-of-not-le, eq-zero-or-pos, sub-zero, sub-add-cancel, mul-one, mul-comm, mul-le-mul-right, mul-le-mul-left, mul-lt-mul-of-pos-right, le-of-mul-le-mul-right}
+use mathlib.Core.Path.{_≡_, sym, ap}
+use mathlib.Core.Logic.{inl, inr}
+use Prim.Native.Nat.{ℕ, _+_, _-_, _*_, _^_, _≤_, _<_}
+use native.Mathlib.Nat.{le-trans, le-of-eq, le-of-lt, lt-of-le-of-lt, lt-of-not-le, eq-zero-or-pos, sub-add-cancel, mul-one, mul-le-mul-right, mul-lt-mul-of-pos-right, le-of-mul-le-mul-right}
 use native.Mathlib.Omega.{arith}
 use lib.Pow.{pow-add, pow-pos}
-use Rattle.rounding.proofs.Snap.{snap, Rep, snap-mono, snap-rep, snap-below, snap-above, snap-err, snap-rel, snap-is-rep, rep-small, rep-scale, rep-pow, rep-gap, half-pow}
+use Rattle.rounding.proofs.Snap.{snap, Rep, snap-mono, snap-rep, snap-below, snap-above, snap-err, snap-rel, snap-is-rep, rep-small, rep-pow, rep-gap, half-pow}
 use Rattle.rounding.proofs.Closest.{le-or-lt}
 
 module _ (p j : ℕ) (P : 0 < p) where
-  abbrev U : ℕ
-  U = 2 ^ (p + j)
-
   U-pos : 0 < 2 ^ (p + j)
   U-pos = pow-pos (p + j)
 

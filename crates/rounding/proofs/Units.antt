@@ -1,23 +1,22 @@
 -- A finite float's size in units of its format's smallest value: `Size f x n`. What fits has such a size, of at most prec digits; and `round`, and so each operation, is `snap` on sizes.
 -- What fits is its own rounding, and a rounding keeps its side of what fits. Assumes nothing.
 use mathlib.Core.Path.{_≡_, refl, sym, ap, _∙_, subst}
-use mathlib.Core.Logic.{_⊎_, inl, inr}
-use Prim.Native.Nat.{ℕ, zero, suc, _+_, _-_, _*_, _/_, _%_, _^_, _≤_, _<_, zero-le}
-use native.Mathlib.Nat.{le-refl, le-trans, le-of-eq, le-of-lt, lt-of-lt-of-le, lt-of-le-of-lt, lt-of-not-le, not-le-of-lt, lt-irrefl, le-of-suc-le-suc, zero-mul, mul-one, mul-comm, mul-assoc, mul-left-comm, mul-right-comm, mul-le-mul-right, mul-lt-mul-of-pos-right, lt-of-mul-lt-mul-right, eq-of-mul-eq-mul-right, mul-pos}
+use Prim.Native.Nat.{ℕ, zero, suc, _+_, _-_, _*_, _/_, _%_, _^_, _≤_, _<_}
+use native.Mathlib.Nat.{lt-of-not-le, not-le-of-lt, le-of-suc-le-suc, zero-mul, mul-one, mul-assoc, mul-lt-mul-of-pos-right, lt-of-mul-lt-mul-right, eq-of-mul-eq-mul-right}
 use native.Mathlib.Omega.{arith}
-use mathlib.Core.Bool.{Bool, true, false, not, _&&_, _||_, cond}
+use mathlib.Core.Bool.{Bool, false, _&&_, cond}
 use lib.IntN.{ℤ, pos, negsuc}
-use lib.Dec.{T, leb, ltb, eqb, leb→le, ltb→lt, lt→ltb, eqb→eq, lit≤, lit<}
-use lib.Pow.{pow-add, pow-pos, pow-mono, pow-lt}
-use lib.Ieee.{Float, nan, inf, fin, Format, binary32, binary64, prec, emax, low, up, down, size, hid, top, units, round, fits, toBits, ofBits, le}
+use lib.Dec.{T, leb, ltb, eqb, leb→le, ltb→lt}
+use lib.Pow.{pow-add, pow-pos, pow-lt}
+use lib.Ieee.{Float, nan, inf, fin, Format, binary32, binary64, prec, emax, low, up, down, size, hid, top, round, fits, toBits, ofBits, le}
 use lib.Ieee.Digits.{Equals}
-use lib.Ieee.Fits.{and-l, and-r, down-pos, up-pos, round-is, round-fits, two, two-le-pos}
+use lib.Ieee.Fits.{and-l, and-r, down-pos, round-is, round-fits, two, two-le-pos}
 use lib.Ieee.Exact.{HasValue, units-val, round-exact}
 use lib.Ieee.Nearest.{div-same}
 use lib.Ieee.Order.{drop, kept, round-mono}
-use lib.Ieee.Scale.{round-same, overflow, finite}
+use lib.Ieee.Scale.{overflow}
 use lib.Ieee.Bits.{ofBits-toBits}
-use Rattle.rounding.proofs.Snap.{snap, snap-same, Rep, pow-part, rep-scale}
+use Rattle.rounding.proofs.Snap.{snap, snap-same, Rep, pow-part}
 
 -- ---- the formats: low is prec and a gap
 abbrev pub gap : Format → ℕ
@@ -40,11 +39,6 @@ U-is f = ap (λ (x : ℕ). 2 ^ x) (low-is f)
 
 abbrev pub Size : Format → Float → ℕ → Type 0
 Size f x n = Equals x n (2 ^ (prec f + gap f))
-
-value→equals : (x : Float) (s : Bool) (a c : ℕ) → HasValue x s a c → Equals x a c
-value→equals nan s a c h = h
-value→equals (inf t) s a c h = h
-value→equals (fin t m e) s a c h = h .1
 
 pub round-raw : (f : Format) (s : Bool) (a c : ℕ) → snap (prec f) (a * 2 ^ low f) c < overflow f → HasValue (round f s a c) s (snap (prec f) (a * 2 ^ low f) c) (2 ^ low f)
 unfolding snap
@@ -109,10 +103,6 @@ unique f (fin t m e) (fin u n d) s a c C p q h k =
     let w : m * up e * l / down e ≡ n * up d * l / down d = div-same (m * up e * l) (down e) (n * up d * l) (down d) (down-pos e) (down-pos d) (omega (arith, ap (λ (z : ℕ). z * l) (same-cross (m * up e) (down e) (n * up d) (down d) a c C (h .1) (k .1)))) in
     let b : toBits f (fin t m e) ≡ toBits f (fin u n d) = toBits-is f t m e (n * up d * l / down d) w ∙ ap (λ (r : Bool). cond r (top f) 0 + (size (n * up d * l / down d) - prec f) * hid f + n * up d * l / down d / 2 ^ (size (n * up d * l / down d) - prec f)) (h .0 ∙ sym (k .0)) ∙ sym (toBits-is f u n d (n * up d * l / down d) refl) in
     sym (ofBits-toBits f (fin t m e) p) ∙ ap (λ (z : ℕ). ofBits f z) b ∙ ofBits-toBits f (fin u n d) q
-
--- ---- `round` sees only its fraction's value
-pub round-cancel : (f : Format) (s : Bool) (k a b : ℕ) → 0 < k → 0 < b → round f s (k * a) (k * b) ≡ round f s a b
-round-cancel f s k a b K B = round-same f s (k * a) (k * b) a b (mul-pos K B) B (simp (mul-assoc, mul-left-comm))
 
 -- ---- what fits is its own rounding
 pub round-own : (f : Format) (s : Bool) (m : ℕ) (e : ℤ) → T (fits f (fin s m e)) → round f s (m * up e) (down e) ≡ fin s m e

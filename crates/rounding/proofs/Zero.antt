@@ -2,14 +2,14 @@
 -- Assumes nothing.
 use mathlib.Core.Path.{_≡_, refl, sym, ap, _∙_, subst}
 use mathlib.Core.Logic.{_⊎_, inl, inr}
-use Prim.Native.Nat.{ℕ, zero, suc, _+_, _-_, _*_, _^_, _≤_, _<_}
-use native.Mathlib.Nat.{zero-mul, mul-zero, mul-one, mul-comm, mul-assoc, mul-left-comm, mul-pos, eq-zero-or-pos}
+use Prim.Native.Nat.{ℕ, _+_, _-_, _*_, _^_, _<_}
+use native.Mathlib.Nat.{zero-mul, mul-zero, mul-assoc, mul-left-comm, mul-pos, eq-zero-or-pos}
 use native.Mathlib.Omega.{arith}
 use mathlib.Core.Bool.{Bool, true, false, not, _&&_, _||_, cond, Bool·beq, true≢false}
-use lib.IntN.{ℤ, pos, negsuc, _+ℤ_}
-use lib.Dec.{T, ltb, eqb, eqb→eq, eqb-refl}
+use lib.IntN.{ℤ, pos, _+ℤ_}
+use lib.Dec.{T, ltb, eqb, eqb→eq}
 use lib.Pow.{pow-pos}
-use lib.Ieee.{Float, nan, inf, fin, Format, binary32, binary64, low, top, up, down, unlike, round, sum, add, mul, eq, ofBits, isNan}
+use lib.Ieee.{Float, nan, inf, fin, Format, binary32, binary64, low, top, up, down, unlike, round, sum, add, mul, eq, ofBits}
 use lib.Ieee.Fits.{down-pos, up-pos, and-l}
 use lib.Ieee.Exact.{HasValue}
 use lib.Ieee.Scale.{round-same, finite}
@@ -92,7 +92,7 @@ both f s t m n e d z h =
     (refl, ap (λ (x : ℕ). x * up (e +ℤ d) * 1) h ∙ simp (zero-mul))
   where
     shuffle : (a b c d : ℕ) → a * b * (c * d) ≡ a * c * (b * d)
-    shuffle a b c d = simp (mul-assoc, mul-comm, mul-left-comm)
+    shuffle a b c d = simp (mul-assoc, mul-left-comm)
 
 pub zero-factor : (f : Format) (x y z : Float) → Zero x ⊎ Zero y → add f (mul f x y) z ≡ fma f x y z
 zero-factor f x nan z h = fma-plain f x nan z (inr tt)

@@ -3,22 +3,21 @@
 use Prim.Native.Nat.{ℕ}
 use mathlib.Core.Bool.{Bool}
 use mathlib.Core.List.{List}
-use lib.Dec.{eqb, leb}
-use lib.ListN.{length}
 use lib.Ieee.{Float}
-use Rattle.answer.specs.Figures.{nought, one, longestBlock}
-use Rattle.answer.specs.Checks.{isRate, firstRefused}
+use Rattle.answer.specs.Figures.{nought, one}
+use Rattle.answer.specs.Checks.{isRate}
 use Rattle.answer.specs.Told.{Told, refused, done, doneWith, unless}
-use Rattle.answer.specs.declared.Refusal.the-variants.{NoSetting, OutOfRange, BadWorkedNumber, BadRate, BadSample, LengthsDiffer, TooLong, BadState}
+use Rattle.answer.specs.Blocks.{checkedBlock}
+use Rattle.answer.specs.declared.Refusal.the-variants.{NoSetting, OutOfRange, BadWorkedNumber, BadRate, BadState}
 use Rattle.fold.specs.Fold.{stateAfter, outAfter}
-use Rattle.frequencies.specs.declared.Model.{Model}
-use Rattle.tonestack_settings.specs.Models.{numberOf}
-use Rattle.tonestack_settings.specs.Ranges.{isNumber, worked, withSetting, settable}
-use Rattle.tonestack_settings.specs.Names.{named, kept}
-use Rattle.tonestack_settings.specs.declared.Settings.{Settings}
-use Rattle.tonestack_settings.specs.declared.Setting.{Setting}
-use Rattle.tonestack_settings.specs.declared.Named.{Named}
-use Rattle.tonestack_settings.specs.declared.Named.the-variants.{Known, Unknown}
+use Rattle.common.specs.declared.frequencies.Model.{Model}
+use Rattle.tonestack_sample.specs.Models.{numberOf}
+use Rattle.tonestack_sample.specs.Ranges.{isNumber, worked, withSetting, settable}
+use Rattle.tonestack_sample.specs.Names.{named, kept}
+use Rattle.tonestack_sample.specs.declared.Settings.{Settings}
+use Rattle.tonestack_sample.specs.declared.Setting.{Setting}
+use Rattle.tonestack_sample.specs.declared.Named.{Named}
+use Rattle.tonestack_sample.specs.declared.Named.the-variants.{Known, Unknown}
 use Rattle.tonestack_sample.specs.Step.{next, output}
 use Rattle.tonestack_sample.specs.declared.Registers.{Registers}
 use Rattle.tonestack.specs.declared.Tone.{Tone}
@@ -102,8 +101,6 @@ module _ (s : Settings) (m : Registers) (xs : List Float) where
 -- what is told, and what the buffer for the output holds afterwards; a refusal leaves it as it was
 unfoldable pub block : Tone → List Float → List Float → Told Tone × List Float
 block t xs out =
-    unless (acceptable t) (refused t BadState, out)
-    (unless (eqb (length xs) (length out)) (refused t LengthsDiffer, out)
-    (unless (leb (length xs) longestBlock) (refused t TooLong, out)
-    (unless (leb (length xs) (firstRefused xs)) (refused t (BadSample (firstRefused xs)), out)
-    (done (toneOf (t .settings) (after (t .settings) (t .registers) xs)), outputs (t .settings) (t .registers) xs))))
+    let s = t .settings in
+    let m = t .registers in
+    checkedBlock t out (done (toneOf s (after s m xs)), outputs s m xs) (acceptable t) xs

@@ -1,3 +1,2 @@
--- The tone stack: what its calls tell, and the calls.
-pub mod Answers
+-- The tone stack's calls.
 pub mod Calls

@@ -1,20 +1,18 @@
-// The tone stack: its state, and what its calls answer.
+// The tone stack: its state and its calls.
 mod calls;
 mod samples;
 
-use answer::Refusal;
+use answer::Answer;
 pub use calls::block;
 pub use calls::make;
 pub use calls::read;
 pub use calls::reset;
 pub use calls::set;
 pub use calls::set_typed;
+pub use tonestack_sample::Model;
 pub use tonestack_sample::Registers;
-pub use tonestack_sample::Stepped;
-pub use tonestack_sample::step;
-pub use tonestack_settings::Model;
-pub use tonestack_settings::Setting;
-pub use tonestack_settings::Settings;
+pub use tonestack_sample::Setting;
+pub use tonestack_sample::Settings;
 
 // What a host sets, and what a sample moves.
 #[repr(C)]
@@ -23,18 +21,7 @@ pub struct Tone {
     pub registers: Registers,
 }
 
-// What making, setting, reset and a block answer.
-pub enum Answer {
-    Done,
-    Refused(Refusal),
-}
-
-// What reading answers.
-pub enum Reading {
-    Done(f32),
-    Refused(Refusal),
-}
-
+// The tone stack after a call, and what making, setting, reset and a block answer.
 pub struct Answered {
     pub tone: Tone,
     pub answer: Answer,

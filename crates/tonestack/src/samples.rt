@@ -1,6 +1,6 @@
 // A block's samples.
 use tonestack_sample::Registers;
-use tonestack_settings::Settings;
+use tonestack_sample::Settings;
 ghost use lib.ListN.{length};
 ghost use mathlib.Core.Path.{_≡_};
 ghost use Rattle.tonestack.specs.Calls.{after, outputs};

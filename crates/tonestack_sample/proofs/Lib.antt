@@ -1,2 +1,3 @@
--- The alphas worked out once.
+-- The models' numbers; the alphas worked out once.
+pub mod Numbers
 pub mod Once

@@ -2,7 +2,7 @@
 -- Assumes nothing.
 use mathlib.Core.Path.{_≡_, refl}
 use lib.Ieee.{Float}
-use Rattle.tonestack_settings.specs.declared.Settings.{Settings}
+use Rattle.tonestack_sample.specs.declared.Settings.{Settings}
 use Rattle.tonestack_sample.specs.Alpha.{alphasOf}
 use Rattle.tonestack_sample.specs.Step.{stepWith, next, output, step}
 use Rattle.tonestack_sample.specs.declared.Registers.{Registers}

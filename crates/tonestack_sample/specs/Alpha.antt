@@ -2,9 +2,9 @@
 -- Assumes nothing.
 use lib.Ieee.{Float, binary32, add, mul, div}
 use Rattle.answer.specs.Figures.{f32, one}
-use Rattle.frequencies.specs.Tables.{modelCorners}
-use Rattle.tonestack_settings.specs.Models.{modelOf}
-use Rattle.tonestack_settings.specs.declared.Settings.{Settings}
+use Rattle.common.specs.Frequencies.{modelCorners}
+use Rattle.tonestack_sample.specs.Models.{modelOf}
+use Rattle.tonestack_sample.specs.declared.Settings.{Settings}
 use Rattle.tonestack_sample.specs.declared.Alphas.{Alphas}
 
 -- the f32 nearest to pi

@@ -4,10 +4,10 @@ use mathlib.Core.Bool.{cond}
 use lib.Ieee.{Float, binary32, lt, add, sub, mul}
 use Rattle.rounding.specs.Fma.{fma}
 use Rattle.answer.specs.Figures.{f32}
-use Rattle.frequencies.specs.declared.Model.{Model}
-use Rattle.frequencies.specs.declared.Model.the-variants.{Modern, British, American, Flat}
-use Rattle.tonestack_settings.specs.Models.{modelOf}
-use Rattle.tonestack_settings.specs.declared.Settings.{Settings}
+use Rattle.common.specs.declared.frequencies.Model.{Model}
+use Rattle.common.specs.declared.frequencies.Model.the-variants.{Modern, British, American, Flat}
+use Rattle.tonestack_sample.specs.Models.{modelOf}
+use Rattle.tonestack_sample.specs.declared.Settings.{Settings}
 use Rattle.tonestack_sample.specs.Alpha.{alphasOf}
 use Rattle.tonestack_sample.specs.declared.Alphas.{Alphas}
 use Rattle.tonestack_sample.specs.declared.Registers.{Registers}

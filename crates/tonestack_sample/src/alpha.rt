@@ -1,6 +1,8 @@
 // The alphas of the four one-pole filters, from the rate and the model's corners.
 use crate::Alphas;
-use tonestack_settings::Settings;
+use crate::Settings;
+use crate::models;
+use common::frequencies;
 ghost use mathlib.Core.Path.{_≡_};
 ghost use Rattle.tonestack_sample.specs.Alpha as Alpha;
 
@@ -19,7 +21,7 @@ fn alpha(rate: f32, f: f32) -> f32
 pub fn alphas_of(s: Settings) -> Alphas
     ensures { λ r. ⌜ r ≡ Alpha.alphasOf s ⌝ }
 {
-    let corners = frequencies::model_corners(tonestack_settings::model_of(s.model));
+    let corners = frequencies::model_corners(models::model_of(s.model));
     Alphas {
         dc: alpha(s.rate, DC_CORNER),
         bass: alpha(s.rate, corners.bass),

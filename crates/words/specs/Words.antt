@@ -1,4 +1,4 @@
--- Numbers of two, four and eight bytes in a list of bytes, the lowest byte first. Definitions only.
+-- Words of two and four bytes in a list of bytes, the lowest byte first. Definitions only.
 -- Assumes nothing.
 use Prim.Native.Nat.{ℕ, _+_, _*_, _/_, _%_}
 use mathlib.Core.Bool.{cond}
@@ -6,7 +6,7 @@ use mathlib.Core.List.{List}
 use lib.Dec.{leb}
 use lib.ListN.{length, getD, set}
 
--- the number whose lowest byte stands at a place
+-- the word whose lowest byte stands at a place
 unfoldable pub word16 : List ℕ → ℕ → ℕ
 word16 s at = getD s at 0 + getD s (at + 1) 0 * 0x100
 
@@ -14,20 +14,16 @@ unfoldable pub word32 : List ℕ → ℕ → ℕ
 unfolding word16
 word32 s at = word16 s at + word16 s (at + 2) * 0x1_0000
 
-unfoldable pub word64 : List ℕ → ℕ → ℕ
-unfolding word32
-word64 s at = word32 s at + word32 s (at + 4) * 0x1_0000_0000
-
 -- the same, and 0 where not all of its bytes lie in the list
+unfoldable pub word16At : List ℕ → ℕ → ℕ
+unfolding word16
+word16At s at = cond (leb (at + 2) (length s)) (word16 s at) 0
+
 unfoldable pub word32At : List ℕ → ℕ → ℕ
 unfolding word32
 word32At s at = cond (leb (at + 4) (length s)) (word32 s at) 0
 
-unfoldable pub word64At : List ℕ → ℕ → ℕ
-unfolding word64
-word64At s at = cond (leb (at + 8) (length s)) (word64 s at) 0
-
--- the list with a number's bytes from a place on
+-- the list with a word's bytes from a place on
 unfoldable pub put16 : List ℕ → ℕ → ℕ → List ℕ
 put16 s at n = set (set s at (n % 0x100)) (at + 1) (n / 0x100)
 
@@ -35,15 +31,11 @@ unfoldable pub put32 : List ℕ → ℕ → ℕ → List ℕ
 unfolding put16
 put32 s at n = put16 (put16 s at (n % 0x1_0000)) (at + 2) (n / 0x1_0000)
 
-unfoldable pub put64 : List ℕ → ℕ → ℕ → List ℕ
-unfolding put32
-put64 s at n = put32 (put32 s at (n % 0x1_0000_0000)) (at + 4) (n / 0x1_0000_0000)
-
 -- the same, and the list as it is where not all of the bytes would lie in it
+unfoldable pub put16At : List ℕ → ℕ → ℕ → List ℕ
+unfolding put16
+put16At s at n = cond (leb (at + 2) (length s)) (put16 s at n) s
+
 unfoldable pub put32At : List ℕ → ℕ → ℕ → List ℕ
 unfolding put32
 put32At s at n = cond (leb (at + 4) (length s)) (put32 s at n) s
-
-unfoldable pub put64At : List ℕ → ℕ → ℕ → List ℕ
-unfolding put64
-put64At s at n = cond (leb (at + 8) (length s)) (put64 s at n) s

@@ -1,5 +1,8 @@
-//! A call as bytes: a head of 128, and a block's samples or a state's numbers behind it.
-use super::number::{Taker, single_bytes};
+//! A call as bytes: a head of 128, and a block's samples or a state's numbers behind it; and its answer.
+use super::{
+    Told,
+    number::{self, Number, Taker, single_bytes},
+};
 
 /// Worked numbers and a state's are kept as their bytes, which each stage takes apart.
 #[derive(Clone, Debug)]
@@ -129,4 +132,12 @@ fn read(head: &[u8], state: usize) -> (Call, usize) {
         8 => (Call::Tell, 0),
         number => (Call::Unknown(number), 0),
     }
+}
+
+/// An answer's bytes.
+pub fn answer(told: &Told) -> Vec<u8> {
+    let mut numbers = vec![Number::Whole(told.number), Number::Single(told.value)];
+    numbers.push(Number::Long(told.place));
+    numbers.extend(&told.behind);
+    number::told(&numbers)
 }

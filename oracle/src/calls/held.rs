@@ -9,13 +9,14 @@ use crate::{
     replay::{BEFORE, NO_CALL},
 };
 
-/// What a call tells: document 01's number, value and place, and what stands behind them.
+/// What a call tells: document 01's number, value, place and open count, and what stands behind them.
 #[derive(Default)]
 pub struct Told {
     pub number: u32,
-    value: f32,
-    place: u64,
-    behind: Vec<Number>,
+    pub value: f32,
+    pub place: u64,
+    pub count: u64,
+    pub behind: Vec<Number>,
 }
 
 impl Told {
@@ -24,13 +25,6 @@ impl Told {
             number,
             ..Self::default()
         }
-    }
-
-    pub fn bytes(&self) -> Vec<u8> {
-        let mut bytes = number::told(&[Number::Whole(self.number), Number::Single(self.value)]);
-        bytes.extend(self.place.to_le_bytes());
-        bytes.extend(number::told(&self.behind));
-        bytes
     }
 }
 
@@ -115,7 +109,9 @@ impl<S: Rules> Held<S> {
         let read = self.state.read(name);
         let given = std::str::from_utf8(name).map(|name| rust.stage().get_parameter(name));
         let same = match (read, given) {
-            (Ok(value), Ok(Ok(given))) => bits32(value) == bits32(given),
+            (Ok(value), Ok(Ok(given))) => {
+                bits32(value) == bits32(given) || S::Rust::reads_otherwise(name)
+            }
             (Err(_), Ok(Err(_)) | Err(_)) => true,
             _ => false,
         };
@@ -158,17 +154,21 @@ impl<S: Rules> Held<S> {
             });
         }
         let mut output = input.to_vec();
-        rust.block(&self.state, &mut output);
+        let aims = rust.block(&self.state, &mut output);
+        let mut count = 0;
         for (place, (&input, &output)) in input.iter().zip(&output).enumerate() {
             let rule = self.state.sample(input);
-            if bits32(rule) != bits32(output) {
+            let open = self.state.aims_open();
+            if bits32(rule) != bits32(output) || aims.get(place).is_some_and(|&aim| aim != open) {
                 return Err(format!(
-                    "sample {place}, {input}: {rule}, the Rust {output}"
+                    "sample {place}, {input}: {rule}, open {open}, the Rust {output}"
                 ));
             }
+            count += u64::from(open);
         }
         self.agrees()?;
         Ok(Told {
+            count,
             behind: singles(&output),
             ..Told::default()
         })

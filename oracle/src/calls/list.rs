@@ -1,5 +1,5 @@
 //! Lists of calls: the one that is stored, and new ones.
-use super::{Call, Drawn, Setting, number::kept};
+use super::{Call, Drawn, Listed, Setting, number::kept};
 use crate::{
     limits::{LARGEST_SAMPLE, LONGEST_BLOCK},
     numbers::{RATES_REFUSED, SAMPLES_REFUSED, above},
@@ -10,7 +10,7 @@ use std::marker::PhantomData;
 
 /// A list that grows.
 pub struct List<'a, S> {
-    bytes: Vec<u8>,
+    pub bytes: Vec<u8>,
     pub random: &'a mut Random,
     /// How many samples its done blocks have.
     samples: u64,
@@ -30,9 +30,7 @@ pub fn stored<S: Drawn>() -> Vec<u8> {
     list.refused_samples();
     S::borders(&mut list);
     list.kept_states_refused();
-    while list.samples < S::STORED {
-        list.session();
-    }
+    list.sessions(S::STORED);
     for number in [0, 9, 10, u32::MAX] {
         list.add(Call::Unknown(number));
     }
@@ -41,17 +39,8 @@ pub fn stored<S: Drawn>() -> Vec<u8> {
     list.bytes
 }
 
-/// A new list, with at least `samples` samples in blocks that are done.
-pub fn generated<S: Drawn>(random: &mut Random, samples: u64) -> Vec<u8> {
-    let mut list = List::<S>::new(random);
-    while list.samples < samples {
-        list.session();
-    }
-    list.bytes
-}
-
-impl<'a, S: Drawn> List<'a, S> {
-    const fn new(random: &'a mut Random) -> Self {
+impl<'a, S: Listed> List<'a, S> {
+    pub const fn new(random: &'a mut Random) -> Self {
         Self {
             bytes: Vec::new(),
             random,
@@ -60,16 +49,15 @@ impl<'a, S: Drawn> List<'a, S> {
         }
     }
 
-    pub fn add(&mut self, call: Call) {
-        self.bytes.extend(call.bytes());
+    /// Sessions, until the list's done blocks have so many samples.
+    pub fn sessions(&mut self, samples: u64) {
+        while self.samples < samples {
+            S::session(self);
+        }
     }
 
-    /// A call that is refused, and now and then the state that it leaves.
-    pub fn refused(&mut self, call: Call) {
-        self.add(call);
-        if self.random.below(4) == 0 {
-            self.add(Call::Tell);
-        }
+    pub fn add(&mut self, call: Call) {
+        self.bytes.extend(S::bytes(&call, self.random));
     }
 
     /// A block that is done.
@@ -77,6 +65,16 @@ impl<'a, S: Drawn> List<'a, S> {
         self.samples += samples.len() as u64;
         let places = samples.len();
         self.add(Call::Block(samples, places));
+    }
+}
+
+impl<S: Drawn> List<'_, S> {
+    /// A call that is refused, and now and then the state that it leaves.
+    pub fn refused(&mut self, call: Call) {
+        self.add(call);
+        if self.random.below(4) == 0 {
+            self.add(Call::Tell);
+        }
     }
 
     pub fn drawn(&mut self, length: usize) {

@@ -1,8 +1,9 @@
-//! Calls on a stage that is made, set, read, reset and run: the equaliser, the tone stack, the saturator.
+//! Calls on a stage that is made, set, read, reset and run: the noise gate, the equaliser, the tone stack,
+//! the saturator.
 //!
 //! A list begins with a state as a refused making leaves it, and each call is on the state that the one
-//! before it left. What a call takes, and what an answer has, is said at the top of each stage's
-//! `crates/STAGE_replay/src/main.rt`; the three have the same layout.
+//! before it left. What a call takes, and what an answer has, `oracle/README.md` says; all but the gate
+//! have the same layout, that of `call.rs`.
 mod call;
 mod held;
 mod list;
@@ -15,6 +16,7 @@ use crate::{
 };
 pub use call::Call;
 use held::Held;
+pub use held::Told;
 pub use list::List;
 use number::{Number, Taker};
 use rustortion_core::amp::stages::Stage;
@@ -23,9 +25,6 @@ use std::{fmt::Debug, marker::PhantomData};
 /// A stage's state as document 01 has it, and what each call does to it. A refusal is its number.
 pub trait Rules: Clone + Debug + Default {
     type Rust: Rust<Self>;
-
-    /// How many bytes a state's numbers have.
-    const BYTES: usize;
 
     fn make(model: u32, rate: f32, worked: Taker) -> Result<Self, u32>;
 
@@ -44,6 +43,11 @@ pub trait Rules: Clone + Debug + Default {
     fn at_rest(self) -> Self;
 
     fn sample(&mut self, input: f32) -> f32;
+
+    /// Whether a gate aimed open at the sample just run.
+    fn aims_open(&self) -> bool {
+        false
+    }
 
     fn numbers(&self) -> Vec<Number>;
 
@@ -68,10 +72,56 @@ pub trait Rust<S> {
         false
     }
 
-    fn block(&mut self, _state: &S, samples: &mut [f32]) {
+    /// Whether document 01 and the Rust differ about what a setting is read as.
+    fn reads_otherwise(_name: &[u8]) -> bool {
+        false
+    }
+
+    /// Runs the samples; of a gate, whether it aimed open at each.
+    fn block(&mut self, _state: &S, samples: &mut [f32]) -> Vec<bool> {
         for sample in samples {
             *sample = self.stage().process(*sample);
         }
+        Vec::new()
+    }
+}
+
+/// How a stage's lists are made and read, and how its answers are written.
+pub trait Listed: Rules {
+    fn stored() -> Vec<u8>;
+
+    /// A state carried through calls drawn at random.
+    fn session(list: &mut List<Self>);
+
+    /// A call's bytes, in one of its forms.
+    fn bytes(call: &Call, random: &mut Random) -> Vec<u8>;
+
+    /// A list's calls, each with the form that it has, where there are two.
+    fn calls(list: &[u8]) -> impl Iterator<Item = (Call, &'static str)>;
+
+    /// An answer's bytes; the state is the one after the call.
+    fn answer(&self, told: &Told) -> Vec<u8>;
+}
+
+impl<S: Drawn> Listed for S {
+    fn stored() -> Vec<u8> {
+        list::stored::<S>()
+    }
+
+    fn session(list: &mut List<Self>) {
+        list.session();
+    }
+
+    fn bytes(call: &Call, _: &mut Random) -> Vec<u8> {
+        call.bytes()
+    }
+
+    fn calls(list: &[u8]) -> impl Iterator<Item = (Call, &'static str)> {
+        call::list(list, S::BYTES).map(|call| (call, ""))
+    }
+
+    fn answer(&self, told: &Told) -> Vec<u8> {
+        call::answer(told)
     }
 }
 
@@ -85,6 +135,9 @@ pub struct Setting {
 
 /// What lists are made of.
 pub trait Drawn: Rules {
+    /// How many bytes a state's numbers have.
+    const BYTES: usize;
+
     /// The stored list's seed, and how many samples its done blocks have, at least.
     const SEED: u64;
     const STORED: u64;
@@ -124,20 +177,23 @@ impl<S> Called<S> {
     pub const NEW: Self = Self(PhantomData);
 }
 
-impl<S: Drawn> Replay for Called<S> {
+impl<S: Listed> Replay for Called<S> {
     fn stored(&self) -> Vec<u8> {
-        list::stored::<S>()
+        S::stored()
     }
 
     fn generated(&self, random: &mut Random, cases: u64) -> Vec<u8> {
-        list::generated::<S>(random, cases)
+        let mut list = List::<S>::new(random);
+        list.sessions(cases);
+        list.bytes
     }
 
     fn answers(&self, calls: &[u8]) -> Result<Vec<u8>, String> {
         let mut held = Held::<S>::default();
         let mut answers = Vec::with_capacity(calls.len() * 2);
-        for call in call::list(calls, S::BYTES) {
-            answers.extend(held.told(&call)?.bytes());
+        for (call, _) in S::calls(calls) {
+            let told = held.told(&call)?;
+            answers.extend(held.state.answer(&told));
         }
         Ok(answers)
     }
@@ -145,7 +201,7 @@ impl<S: Drawn> Replay for Called<S> {
     fn counts(&self, calls: &[u8]) -> Counts {
         let mut counts = Counts::new();
         let mut held = Held::<S>::default();
-        for call in call::list(calls, S::BYTES) {
+        for (call, _) in S::calls(calls) {
             let told = held.told(&call).expect("a list that was answered");
             *counts.entry(call.name()).or_default() += 1;
             *counts.entry(answered(told.number)).or_default() += 1;
@@ -159,16 +215,16 @@ impl<S: Drawn> Replay for Called<S> {
     fn told(&self, calls: &[u8], answer_byte: usize) -> String {
         let mut held = Held::<S>::default();
         let mut left = answer_byte;
-        for (index, call) in call::list(calls, S::BYTES).enumerate() {
+        for (index, (call, form)) in S::calls(calls).enumerate() {
             let before = held.state.clone();
             let told = match held.told(&call) {
                 Ok(told) => told,
                 Err(reason) => return reason,
             };
-            let length = told.bytes().len();
+            let length = held.state.answer(&told).len();
             if left < length {
                 return format!(
-                    "call {index}, byte {left} of its answer: {call:?} on {before:?}, answered {}",
+                    "call {index}, byte {left} of its answer: {call:?} {form} on {before:?}, answered {}",
                     told.number
                 );
             }

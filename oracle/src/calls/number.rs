@@ -4,6 +4,7 @@ use crate::bits::{bits32, bits64};
 #[derive(Clone, Copy, Debug)]
 pub enum Number {
     Whole(u32),
+    Long(u64),
     Single(f32),
     Double(f64),
 }
@@ -13,6 +14,7 @@ impl Number {
     fn kept(self) -> Vec<u8> {
         match self {
             Self::Whole(n) => n.to_le_bytes().into(),
+            Self::Long(n) => n.to_le_bytes().into(),
             Self::Single(x) => x.to_bits().to_le_bytes().into(),
             Self::Double(x) => x.to_bits().to_le_bytes().into(),
         }
@@ -22,6 +24,7 @@ impl Number {
     fn told(self) -> Vec<u8> {
         match self {
             Self::Whole(n) => n.to_le_bytes().into(),
+            Self::Long(n) => n.to_le_bytes().into(),
             Self::Single(x) => (bits32(x) as u32).to_le_bytes().into(),
             Self::Double(x) => bits64(x).to_le_bytes().into(),
         }
@@ -63,12 +66,16 @@ impl Taker<'_> {
         u32::from_le_bytes(self.bytes())
     }
 
+    pub fn long(&mut self) -> u64 {
+        u64::from_le_bytes(self.bytes())
+    }
+
     pub fn single(&mut self) -> f32 {
         f32::from_bits(self.whole())
     }
 
     pub fn double(&mut self) -> f64 {
-        f64::from_bits(u64::from_le_bytes(self.bytes()))
+        f64::from_bits(self.long())
     }
 
     pub fn some<const N: usize>(&mut self) -> [f32; N] {

@@ -3,6 +3,7 @@ use super::{Call, Drawn, List};
 use crate::{
     limits::LONGEST_BLOCK,
     numbers::{RATES_REFUSED, refused_sample},
+    signals,
 };
 
 impl<S: Drawn> List<'_, S> {
@@ -26,7 +27,7 @@ impl<S: Drawn> List<'_, S> {
             self.load(&state);
         }
         for _ in 0..self.random.between(1, 8) {
-            let length = self.length();
+            let length = signals::length(self.random);
             self.drawn(length);
             match self.random.below(6) {
                 0 => self.add(Call::Reset),
@@ -52,16 +53,6 @@ impl<S: Drawn> List<'_, S> {
         self.add(making);
         self.add(Call::Tell);
         self.add(Call::Block(vec![0.5; 3], 3));
-    }
-
-    /// Mostly short, so that much happens between blocks.
-    fn length(&mut self) -> usize {
-        let random = &mut *self.random;
-        match random.below(64) {
-            0 => random.pick(&[0, 1, 2, LONGEST_BLOCK - 1, LONGEST_BLOCK]),
-            1..4 => random.below(LONGEST_BLOCK as u64) as usize,
-            _ => random.below(500) as usize,
-        }
     }
 
     /// A setting as another state has it.

@@ -1,12 +1,4 @@
-//! The clipper, hard and triode.
-//!
-//! A call is 16 bytes: four words of four bytes, the lowest byte first, and a block's samples behind
-//! them. The first word is the call's number, the second the drive, as bits. A block's other two say how
-//! many samples the input has and how many the buffer for the output, at most 4,097 each; a single
-//! sample's third is its bits, an entry's third its place in the table. The answer is 12 bytes: document
-//! 01's number, and the place of eight bytes; behind it stands the whole buffer for the output, each of
-//! its samples -1000 before the call, or the one number. A number that no call has is answered by 12
-//! bytes of ones. A call that the list ends in has no answer.
+//! The clipper, hard and triode. `oracle/README.md` says what stands where in a call and in its answer.
 mod cases;
 mod rules;
 

@@ -1,10 +1,5 @@
-//! A lone follower and a lone DC blocker.
-//!
-//! A call is 20 bytes: five words of four bytes, the lowest byte first. The first is the call's number,
-//! then come the three numbers of the state that it is made on, as bits, and the sample; a making takes
-//! its worked numbers from the state's, and no call looks at more than it takes. The answer is 20 bytes
-//! too: document 01's number, the value, and the three numbers of the state after the call. A number
-//! that no call has is answered by all ones. What is left behind the last whole call has no answer.
+//! A lone follower and a lone DC blocker. `oracle/README.md` says what stands where in a call and in its
+//! answer.
 mod cases;
 mod rules;
 mod rust;

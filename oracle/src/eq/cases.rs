@@ -154,6 +154,7 @@ impl Equaliser {
 }
 
 impl Drawn for Equaliser {
+    const BYTES: usize = 4 + BANDS * (4 + 40 + 32);
     const SEED: u64 = 5;
     const STORED: u64 = 80_000;
 

@@ -80,8 +80,6 @@ fn step([b0, b1, b2, a1, a2]: [f64; 5], registers: &mut [f64; 4], x: f64) -> f64
 impl Rules for Equaliser {
     type Rust = Rust;
 
-    const BYTES: usize = 4 + BANDS * (4 + 40 + 32);
-
     fn make(_: u32, rate: f32, _: Taker) -> Result<Self, u32> {
         if !is_rate(rate) {
             return Err(5);

@@ -1,9 +1,4 @@
-//! Float arithmetic.
-//!
-//! A case is 25 bytes: the operation's number, and three operands of eight bytes, the lowest byte
-//! first. An f32 is the four low bytes of its operand; an operation looks at no more operands than it
-//! takes. The answer is eight bytes, the lowest first, and all ones where no operation has the number.
-//! What is left behind the last whole case has no answer.
+//! Float arithmetic. `oracle/README.md` says what stands where in a case and in its answer.
 mod cases;
 mod published;
 mod singles;

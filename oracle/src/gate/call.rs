@@ -1,76 +1,73 @@
-//! A call as bytes.
+//! A gate's call as bytes, and its answer.
 use super::{rules::Gate, setting::Setting};
-
-#[derive(Clone, Debug)]
-pub enum Call {
-    /// A rate, and the follower's two numbers.
-    Make(f32, f32, f32),
-    Set(Setting),
-    /// A name, a value and a worked number.
-    SetNamed(Vec<u8>, f32, f32),
-    Read(Vec<u8>),
-    Reset,
-    /// Samples, and how many the buffer for the output has.
-    Block(Vec<f32>, usize),
-    /// A host hands a state's numbers back.
-    Load(Gate),
-    /// No call has the number.
-    Unknown,
-}
+use crate::calls::{
+    Call, Rules, Told,
+    number::{self, Number, Taker, kept, single_bytes},
+};
 
 /// The bytes of a call without a block's samples, where a name stands in them, and the most samples.
 const LENGTH: usize = 64;
 const NAME: usize = 16;
 const MOST: usize = 4097;
 
-impl Call {
-    pub const fn name(&self) -> &'static str {
-        match self {
-            Self::Make(..) => "makings",
-            Self::Set(_) => "settings, typed",
-            Self::SetNamed(..) => "settings by name",
-            Self::Read(_) => "readings",
-            Self::Reset => "resets",
-            Self::Block(..) => "blocks",
-            Self::Load(_) => "states handed back",
-            Self::Unknown => "no call",
-        }
-    }
+pub fn make(rate: f32, rising: f32, falling: f32) -> Call {
+    Call::Make(0, rate, single_bytes(&[rising, falling]))
+}
 
-    /// Its bytes; `in_place` asks for the form on the gate where it lies, where there is one.
-    pub fn bytes(&self, in_place: bool) -> Vec<u8> {
-        let number = match self {
-            Self::Make(..) => 1,
-            Self::Set(_) => 2,
-            Self::SetNamed(..) => 3 + 5 * u32::from(in_place),
-            Self::Read(_) => 4,
-            Self::Reset => 5 + 4 * u32::from(in_place),
-            Self::Block(..) => 6 + 4 * u32::from(in_place),
-            Self::Load(_) => 7,
-            Self::Unknown => u32::MAX,
-        };
-        let mut bytes = number.to_le_bytes().to_vec();
-        bytes.extend(self.taken());
-        bytes.resize(LENGTH, 0);
-        if let Self::Block(samples, _) = self {
-            bytes.extend(floats(samples));
-        }
-        bytes
-    }
+pub fn named(name: &[u8], value: f32, worked: f32) -> Call {
+    Call::SetNamed(name.into(), value, single_bytes(&[worked]))
+}
 
-    /// What the call takes.
-    fn taken(&self) -> Vec<u8> {
-        match self {
-            &Self::Make(rate, rising, falling) => floats(&[rate, rising, falling]),
-            &Self::Set(setting) => typed(setting),
-            Self::SetNamed(name, value, worked) => {
-                [floats(&[*value, *worked]), named(name)].concat()
-            }
-            Self::Read(name) => [vec![0; 8], named(name)].concat(),
-            Self::Block(samples, places) => words(&[samples.len() as u32, *places as u32]),
-            Self::Load(gate) => state(gate, f32::to_bits),
-            Self::Reset | Self::Unknown => Vec::new(),
+/// A setting by its number; beside one that takes no worked number stands anything.
+pub fn typed(setting: Setting) -> Call {
+    let worked = match setting {
+        Setting::Hold(_) => f32::INFINITY,
+        setting => setting.worked().unwrap_or(f32::NAN),
+    };
+    Call::Set(setting.which(), setting.value(), single_bytes(&[worked]))
+}
+
+pub fn load(gate: Gate) -> Call {
+    Call::Load(kept(&gate.numbers()))
+}
+
+/// A call's bytes; `in_place` asks for the form on the gate where it lies, where there is one.
+pub fn bytes(call: &Call, in_place: bool) -> Vec<u8> {
+    let number = match call {
+        Call::Make(..) => 1,
+        Call::Set(..) => 2,
+        Call::SetNamed(..) => 3 + 5 * u32::from(in_place),
+        Call::Read(_) => 4,
+        Call::Reset => 5 + 4 * u32::from(in_place),
+        Call::Block(..) => 6 + 4 * u32::from(in_place),
+        Call::Load(_) => 7,
+        Call::Tell => unreachable!("every answer of a gate tells its state"),
+        &Call::Unknown(number) => number,
+    };
+    let mut bytes = words(&[number]);
+    bytes.extend(taken(call));
+    bytes.resize(LENGTH, 0);
+    if let Call::Block(samples, _) = call {
+        bytes.extend(single_bytes(samples));
+    }
+    bytes
+}
+
+/// What the call takes.
+fn taken(call: &Call) -> Vec<u8> {
+    let sized = |name: &[u8]| [&words(&[name.len() as u32]), name].concat();
+    match call {
+        Call::Make(_, rate, worked) => [&single_bytes(&[*rate]), &worked[..]].concat(),
+        Call::Set(which, value, worked) => {
+            [&words(&[*which, value.to_bits()]), &worked[..]].concat()
         }
+        Call::SetNamed(name, value, worked) => {
+            [&single_bytes(&[*value]), &worked[..], &sized(name)].concat()
+        }
+        Call::Read(name) => [vec![0; 8], sized(name)].concat(),
+        Call::Block(samples, places) => words(&[samples.len() as u32, *places as u32]),
+        Call::Load(state) => state.clone(),
+        Call::Reset | Call::Tell | Call::Unknown(_) => Vec::new(),
     }
 }
 
@@ -78,119 +75,49 @@ fn words(words: &[u32]) -> Vec<u8> {
     words.iter().flat_map(|word| word.to_le_bytes()).collect()
 }
 
-fn floats(floats: &[f32]) -> Vec<u8> {
-    floats
-        .iter()
-        .flat_map(|x| x.to_bits().to_le_bytes())
-        .collect()
-}
-
-fn named(name: &[u8]) -> Vec<u8> {
-    [&words(&[name.len() as u32]), name].concat()
-}
-
-fn typed(setting: Setting) -> Vec<u8> {
-    let (kind, value, worked) = match setting {
-        Setting::Threshold(value, worked) => (0, value, worked),
-        Setting::Ratio(value) => (1, value, f32::NAN),
-        Setting::Attack(value, worked) => (2, value, worked),
-        Setting::Release(value, worked) => (3, value, worked),
-        Setting::Hold(value) => (4, value, f32::INFINITY),
-    };
-    words(&[kind, value.to_bits(), worked.to_bits()])
-}
-
-/// A gate's numbers, each float as the bits that are given for it.
-pub fn state(gate: &Gate, bits: impl Fn(f32) -> u32) -> Vec<u8> {
-    let numbers = [
-        gate.rate,
-        gate.threshold,
-        gate.factor,
-        gate.ratio,
-        gate.attack,
-        gate.opening,
-        gate.release,
-        gate.closing,
-        gate.hold,
-        gate.rising,
-        gate.falling,
-        gate.level,
-        gate.state,
-    ];
-    let mut bytes = words(&numbers.map(bits));
-    bytes.extend(gate.counter.to_le_bytes());
-    bytes
-}
-
-/// The calls of a list, and whether each is on the gate where it lies. What is left behind the last
-/// whole call is none.
-pub fn list(bytes: &[u8]) -> impl Iterator<Item = (Call, bool)> + '_ {
+/// The calls of a list, and the form of each. What is left behind the last whole call is none.
+pub fn list(bytes: &[u8]) -> impl Iterator<Item = (Call, &'static str)> + '_ {
     let mut rest = bytes;
     std::iter::from_fn(move || {
-        let (call, behind) = rest.split_at_checked(LENGTH)?;
-        let (read, in_place) = read(call);
+        let (head, behind) = rest.split_at_checked(LENGTH)?;
+        let (call, form) = read(head);
         rest = behind;
-        let Call::Block(mut samples, places) = read else {
-            return Some((read, in_place));
+        let Call::Block(samples, places) = call else {
+            return Some((call, form));
         };
         let (held, behind) = rest.split_at_checked(4 * samples.len())?;
         rest = behind;
-        for (at, sample) in samples.iter_mut().enumerate() {
-            *sample = f32::from_bits(word(held, 4 * at));
-        }
-        Some((Call::Block(samples, places), in_place))
+        Some((Call::Block(Taker(held).singles(), places), form))
     })
 }
 
-fn word(bytes: &[u8], at: usize) -> u32 {
-    u32::from_le_bytes(bytes[at..at + 4].try_into().expect("four bytes"))
-}
-
 /// The call that 64 bytes say, a block's samples not yet read.
-fn read(bytes: &[u8]) -> (Call, bool) {
-    let float = |at| f32::from_bits(word(bytes, at));
-    let length = |at| (word(bytes, at) as usize).min(MOST);
-    let name = || bytes[NAME..NAME + (word(bytes, 12) as usize).min(LENGTH - NAME)].to_vec();
-    let number = word(bytes, 0);
+fn read(head: &[u8]) -> (Call, &'static str) {
+    let word = |at: usize| Taker(&head[at..]).whole();
+    let float = |at: usize| Taker(&head[at..]).single();
+    let length = |at: usize| (word(at) as usize).min(MOST);
+    let worked = |at: usize, bytes: usize| head[at..at + bytes].to_vec();
+    let name = || head[NAME..NAME + (word(12) as usize).min(LENGTH - NAME)].to_vec();
+    let number = word(0);
     let call = match number {
-        1 => Call::Make(float(4), float(8), float(12)),
-        2 => Call::Set(setting(word(bytes, 4), float(8), float(12))),
-        3 | 8 => Call::SetNamed(name(), float(4), float(8)),
+        1 => Call::Make(0, float(4), worked(8, 8)),
+        2 => Call::Set(word(4), float(8), worked(12, 4)),
+        3 | 8 => Call::SetNamed(name(), float(4), worked(8, 4)),
         4 => Call::Read(name()),
         5 | 9 => Call::Reset,
         6 | 10 => Call::Block(vec![0.0; length(4)], length(8)),
-        7 => Call::Load(loaded(bytes)),
-        _ => Call::Unknown,
+        7 => Call::Load(head[4..].to_vec()),
+        number => Call::Unknown(number),
     };
-    (call, number > 7)
+    let in_place = (8..=10).contains(&number);
+    (call, if in_place { "in place" } else { "by value" })
 }
 
-const fn setting(kind: u32, value: f32, worked: f32) -> Setting {
-    match kind {
-        1 => Setting::Ratio(value),
-        2 => Setting::Attack(value, worked),
-        3 => Setting::Release(value, worked),
-        4 => Setting::Hold(value),
-        _ => Setting::Threshold(value, worked),
-    }
-}
-
-fn loaded(bytes: &[u8]) -> Gate {
-    let float = |index: usize| f32::from_bits(word(bytes, 4 + 4 * index));
-    Gate {
-        rate: float(0),
-        threshold: float(1),
-        factor: float(2),
-        ratio: float(3),
-        attack: float(4),
-        opening: float(5),
-        release: float(6),
-        closing: float(7),
-        hold: float(8),
-        rising: float(9),
-        falling: float(10),
-        level: float(11),
-        state: float(12),
-        counter: u64::from(word(bytes, 56)) | u64::from(word(bytes, 60)) << 32,
-    }
+/// An answer's bytes: what the call tells, the gate after it, and a block's output.
+pub fn answer(gate: &Gate, told: &Told) -> Vec<u8> {
+    let mut numbers = vec![Number::Whole(told.number), Number::Single(told.value)];
+    numbers.extend([told.place, told.count].map(Number::Long));
+    numbers.extend(gate.numbers());
+    numbers.extend(&told.behind);
+    number::told(&numbers)
 }

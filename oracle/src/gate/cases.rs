@@ -1,11 +1,11 @@
 //! Lists of calls: the one that is stored, and new ones.
 use super::{
-    call::Call,
-    numbers,
+    call, numbers,
     rules::{Gate, LONGEST_COUNT},
-    setting::Setting,
+    setting::{NAMES, Setting},
 };
 use crate::{
+    calls::{Call, List},
     limits::{LARGEST_SAMPLE, LONGEST_BLOCK},
     numbers::{RATES_REFUSED, SAMPLES_REFUSED, SMOOTHING, SMOOTHING_REFUSED, above, below},
     random::Random,
@@ -15,19 +15,11 @@ use crate::{
 /// How many samples of done blocks the stored list has, at least.
 const STORED: u64 = 300_000;
 
-/// A list that grows.
-pub(super) struct List<'a> {
-    bytes: Vec<u8>,
-    pub(super) random: &'a mut Random,
-    /// How many samples its done blocks have.
-    samples: u64,
-}
-
 /// The stored list: every refusal, every length, the borders; a made gate as it is; then sessions; a
 /// record of each number that no call has, and one that ends too soon.
 pub fn stored() -> Vec<u8> {
     let mut random = Random::new(4);
-    let mut list = List::new(&mut random);
+    let mut list = List::<Gate>::new(&mut random);
     list.on_the_made_state();
     list.makings();
     list.limits();
@@ -35,22 +27,11 @@ pub fn stored() -> Vec<u8> {
     list.lengths();
     list.refused_samples();
     list.kept_states_refused();
-    while list.samples < STORED {
-        list.session();
-    }
+    list.sessions(STORED);
     list.at_the_level();
-    list.add(Call::Unknown);
+    list.add(Call::Unknown(u32::MAX));
     list.bytes.extend([0; 64]);
     list.bytes.extend([3; 63]);
-    list.bytes
-}
-
-/// A new list, with at least `samples` samples in blocks that are done.
-pub fn generated(random: &mut Random, samples: u64) -> Vec<u8> {
-    let mut list = List::new(random);
-    while list.samples < samples {
-        list.session();
-    }
     list.bytes
 }
 
@@ -82,8 +63,6 @@ pub(super) const fn settings(gate: &Gate) -> [Setting; 5] {
     ]
 }
 
-pub(super) const NAMES: [&str; 5] = ["threshold", "ratio", "attack", "release", "hold"];
-
 /// Names that are no setting: near ones, other stages' ones, bytes that are no text, and one too long.
 pub(super) const OTHERS: [&[u8]; 12] = [
     b"",
@@ -100,28 +79,7 @@ pub(super) const OTHERS: [&[u8]; 12] = [
     b"attackattackattackattackattackattackattackattack",
 ];
 
-impl<'a> List<'a> {
-    const fn new(random: &'a mut Random) -> Self {
-        Self {
-            bytes: Vec::new(),
-            random,
-            samples: 0,
-        }
-    }
-
-    /// The call, by value or in place.
-    pub(super) fn add(&mut self, call: Call) {
-        let in_place = self.random.coin();
-        self.bytes.extend(call.bytes(in_place));
-    }
-
-    /// A block that is done.
-    pub(super) fn block(&mut self, samples: Vec<f32>) {
-        self.samples += samples.len() as u64;
-        let places = samples.len();
-        self.add(Call::Block(samples, places));
-    }
-
+impl List<'_, Gate> {
     pub(super) fn drawn(&mut self, gate: &Gate, length: usize) {
         let samples = signals::drawn(gate.factor, length, self.random);
         self.block(samples);
@@ -129,10 +87,10 @@ impl<'a> List<'a> {
 
     pub(super) fn set(&mut self, setting: Setting, worked: f32) {
         if self.random.coin() {
-            self.add(Call::Set(setting));
+            self.add(call::typed(setting));
         } else {
-            let name = setting.name().as_bytes().to_vec();
-            self.add(Call::SetNamed(name, setting.value(), worked));
+            let name = setting.name().as_bytes();
+            self.add(call::named(name, setting.value(), worked));
         }
     }
 
@@ -146,7 +104,7 @@ impl<'a> List<'a> {
 
     /// A gate made, and its five settings set.
     pub(super) fn made(&mut self, gate: &Gate) {
-        self.add(Call::Make(gate.rate, gate.rising, gate.falling));
+        self.add(call::make(gate.rate, gate.rising, gate.falling));
         self.set_all(gate);
     }
 
@@ -158,7 +116,7 @@ impl<'a> List<'a> {
 
     /// A made gate with nothing set: what it reads, and how long it holds.
     fn on_the_made_state(&mut self) {
-        self.add(Call::Make(8_000.0, 0.0, 0.0));
+        self.add(call::make(8_000.0, 0.0, 0.0));
         self.read_all();
         let mut samples = vec![0.0; 600];
         samples[20..30].fill(1.5);
@@ -169,12 +127,12 @@ impl<'a> List<'a> {
 
     fn makings(&mut self) {
         for rate in RATES_REFUSED {
-            self.add(Call::Make(rate, 0.5, 0.5));
-            self.add(Call::Make(rate, 1.0, f32::NAN));
+            self.add(call::make(rate, 0.5, 0.5));
+            self.add(call::make(rate, 1.0, f32::NAN));
         }
         for c in SMOOTHING_REFUSED {
-            self.add(Call::Make(48_000.0, c, 0.0));
-            self.add(Call::Make(48_000.0, 0.0, c));
+            self.add(call::make(48_000.0, c, 0.0));
+            self.add(call::make(48_000.0, 0.0, c));
             self.add(Call::Block(vec![1.0; 3], 3));
             self.add(Call::Read(b"hold".into()));
         }
@@ -200,7 +158,7 @@ impl<'a> List<'a> {
             self.add(Call::Block(vec![0.5, -0.5, 0.0, 0.125], 4));
         }
         for name in OTHERS {
-            self.add(Call::SetNamed(name.into(), f32::NAN, f32::NAN));
+            self.add(call::named(name, f32::NAN, f32::NAN));
             self.add(Call::Read(name.into()));
         }
         self.read_all();
@@ -219,11 +177,11 @@ impl<'a> List<'a> {
         }
         let state = numbers::HALF_WAY_OPEN;
         for state in [state, above(state), below(state)] {
-            self.add(Call::Load(Gate { state, ..QUICK }));
+            self.add(call::load(Gate { state, ..QUICK }));
             self.block(vec![1.0, 0.5]);
         }
         for level in (1..40).map(|part| part as f32 / 40.0) {
-            self.add(Call::Load(Gate { level, ..QUICK }));
+            self.add(call::load(Gate { level, ..QUICK }));
             self.block(vec![level, -level]);
         }
     }
@@ -231,7 +189,7 @@ impl<'a> List<'a> {
     /// A sample of the level's own size takes the release number, and here the attack number would give other bits.
     fn at_the_level(&mut self) {
         let level = f32::from_bits(0x3ad9_9ffd);
-        self.add(Call::Load(Gate {
+        self.add(call::load(Gate {
             rising: f32::from_bits(0x1844_8a78),
             falling: f32::from_bits(0x3a09_f8ac),
             level,
@@ -291,7 +249,7 @@ impl<'a> List<'a> {
         }) {
             self.refused_by_9(gate);
         }
-        self.add(Call::Load(Gate {
+        self.add(call::load(Gate {
             counter: LONGEST_COUNT,
             level: LARGEST_SAMPLE,
             state: 1.0,

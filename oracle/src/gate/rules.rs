@@ -1,6 +1,15 @@
-//! Document 01's "Gate" and "The answers": a gate's numbers, what each call tells, and one sample.
-use super::setting::Setting;
-use crate::limits::{self, LARGEST_SAMPLE, is_rate, is_smoothing};
+//! Document 01's "Gate": its numbers, what each call does to them, and one sample.
+use super::{
+    rust::Rust,
+    setting::{NAMES, Setting},
+};
+use crate::{
+    calls::{
+        Rules,
+        number::{Number, Taker, singles},
+    },
+    limits::{LARGEST_SAMPLE, is_rate, is_smoothing},
+};
 
 /// The hold of a made gate and the longest one, in milliseconds; the counter's bound.
 const MADE_HOLD: f32 = 50.0;
@@ -28,36 +37,55 @@ pub struct Gate {
     pub counter: u64,
 }
 
-/// What a call tells: the gate after it, document 01's number, place, open count and value.
-#[derive(Clone, Copy, Debug)]
-pub struct Told {
-    pub gate: Gate,
-    pub number: u32,
-    pub place: u64,
-    pub count: u64,
-    pub value: f32,
-}
-
-pub const fn done(gate: Gate) -> Told {
-    Told {
-        gate,
-        number: 0,
-        place: 0,
-        count: 0,
-        value: 0.0,
-    }
-}
-
-pub const fn refused(gate: Gate, number: u32) -> Told {
-    Told {
-        number,
-        ..done(gate)
-    }
-}
-
 impl Gate {
+    /// The value kept for a setting.
+    const fn kept(&self, setting: Setting) -> f32 {
+        match setting {
+            Setting::Threshold(..) => self.threshold,
+            Setting::Ratio(_) => self.ratio,
+            Setting::Attack(..) => self.attack,
+            Setting::Release(..) => self.release,
+            Setting::Hold(_) => self.hold,
+        }
+    }
+}
+
+const fn pick(first: bool, a: f32, b: f32) -> f32 {
+    if first { a } else { b }
+}
+
+/// fma(c, from, (1-c)*to)
+fn toward(c: f32, from: f32, to: f32) -> f32 {
+    c.mul_add(from, (1.0 - c) * to)
+}
+
+impl Rules for Gate {
+    type Rust = Rust;
+
+    /// 5, then 4.
+    fn make(_: u32, rate: f32, mut worked: Taker) -> Result<Self, u32> {
+        let [rising, falling] = worked.some();
+        if !is_rate(rate) {
+            return Err(5);
+        }
+        if !is_smoothing(rising) || !is_smoothing(falling) {
+            return Err(4);
+        }
+        Ok(Self {
+            rate,
+            factor: 1.0,
+            ratio: 10.0,
+            attack: 1.0,
+            release: 100.0,
+            hold: MADE_HOLD,
+            rising,
+            falling,
+            ..Self::default()
+        })
+    }
+
     /// What 9 asks.
-    pub fn is_acceptable(&self) -> bool {
+    fn is_acceptable(&self) -> bool {
         let could_be_set = [
             Setting::Threshold(self.threshold, self.factor),
             Setting::Ratio(self.ratio),
@@ -76,24 +104,35 @@ impl Gate {
             && self.counter <= LONGEST_COUNT
     }
 
-    const fn at_rest(mut self) -> Self {
+    fn name(which: u32) -> Vec<u8> {
+        NAMES
+            .get(which as usize)
+            .unwrap_or(&NAMES[0])
+            .as_bytes()
+            .into()
+    }
+
+    /// 1, 3, 4.
+    fn set(&self, name: &[u8], value: f32, mut worked: Taker) -> Result<Self, u32> {
+        match Setting::named(name, value, worked.single()) {
+            None => Err(1),
+            Some(setting) if !setting.is_in_range() => Err(3),
+            Some(setting) if !setting.is_worked() => Err(4),
+            Some(setting) => Ok(setting.taken(*self)),
+        }
+    }
+
+    fn read(&self, name: &[u8]) -> Result<f32, u32> {
+        let setting = Setting::named(name, 0.0, 0.0).ok_or(1_u32)?;
+        Ok(self.kept(setting))
+    }
+
+    fn at_rest(mut self) -> Self {
         (self.level, self.state, self.counter) = (0.0, 0.0, 0);
         self
     }
 
-    /// The value kept for a setting.
-    const fn kept(&self, setting: Setting) -> f32 {
-        match setting {
-            Setting::Threshold(..) => self.threshold,
-            Setting::Ratio(_) => self.ratio,
-            Setting::Attack(..) => self.attack,
-            Setting::Release(..) => self.release,
-            Setting::Hold(_) => self.hold,
-        }
-    }
-
-    /// One sample: its output, and whether the gate aims open at it.
-    pub fn sample(&mut self, input: f32) -> (f32, bool) {
+    fn sample(&mut self, input: f32) -> f32 {
         let size = input.abs();
         self.level = toward(
             pick(size > self.level, self.rising, self.falling),
@@ -119,80 +158,50 @@ impl Gate {
             (1.0 - closed).mul_add(self.state, closed),
             1.0,
         );
-        (input * gain, open)
+        input * gain
     }
-}
 
-const fn pick(first: bool, a: f32, b: f32) -> f32 {
-    if first { a } else { b }
-}
-
-/// fma(c, from, (1-c)*to)
-fn toward(c: f32, from: f32, to: f32) -> f32 {
-    c.mul_add(from, (1.0 - c) * to)
-}
-
-/// Making: 5, then 4. A refused one gives a state whose numbers are all 0.
-pub fn make(rate: f32, rising: f32, falling: f32) -> Told {
-    if !is_rate(rate) {
-        return refused(Gate::default(), 5);
+    fn aims_open(&self) -> bool {
+        self.level > self.factor || self.counter > 0
     }
-    if !is_smoothing(rising) || !is_smoothing(falling) {
-        return refused(Gate::default(), 4);
-    }
-    done(Gate {
-        rate,
-        factor: 1.0,
-        ratio: 10.0,
-        attack: 1.0,
-        release: 100.0,
-        hold: MADE_HOLD,
-        rising,
-        falling,
-        ..Gate::default()
-    })
-}
 
-/// A setting: 9, 1, 3, 4. None is a name that is no setting.
-pub fn set(gate: Gate, setting: Option<Setting>) -> Told {
-    let number = match setting {
-        _ if !gate.is_acceptable() => 9,
-        None => 1,
-        Some(setting) if !setting.is_in_range() => 3,
-        Some(setting) if !setting.is_worked() => 4,
-        Some(setting) => return done(setting.taken(gate)),
-    };
-    refused(gate, number)
-}
-
-/// Reading: 9, 1.
-pub fn read(gate: Gate, setting: Option<Setting>) -> Told {
-    match setting {
-        _ if !gate.is_acceptable() => refused(gate, 9),
-        None => refused(gate, 1),
-        Some(setting) => Told {
-            value: gate.kept(setting),
-            ..done(gate)
-        },
+    fn numbers(&self) -> Vec<Number> {
+        let mut numbers = singles(&[
+            self.rate,
+            self.threshold,
+            self.factor,
+            self.ratio,
+            self.attack,
+            self.opening,
+            self.release,
+            self.closing,
+            self.hold,
+            self.rising,
+            self.falling,
+            self.level,
+            self.state,
+        ]);
+        numbers.push(Number::Long(self.counter));
+        numbers
     }
-}
 
-pub fn reset(gate: Gate) -> Told {
-    if gate.is_acceptable() {
-        done(gate.at_rest())
-    } else {
-        refused(gate, 9)
+    fn of(mut numbers: Taker) -> Self {
+        let mut next = || numbers.single();
+        Self {
+            rate: next(),
+            threshold: next(),
+            factor: next(),
+            ratio: next(),
+            attack: next(),
+            opening: next(),
+            release: next(),
+            closing: next(),
+            hold: next(),
+            rising: next(),
+            falling: next(),
+            level: next(),
+            state: next(),
+            counter: numbers.long(),
+        }
     }
-}
-
-/// What refuses a block, if anything: 9, 7, 8, 6.
-pub fn block_refused(gate: Gate, input: &[f32], places: usize) -> Option<Told> {
-    if !gate.is_acceptable() {
-        return Some(refused(gate, 9));
-    }
-    let (number, place) = limits::block_refused(input, places)?;
-    Some(Told {
-        place,
-        ..refused(gate, number)
-    })
 }

@@ -1,18 +1,19 @@
 //! Sessions: a gate carried through calls drawn at random.
 use super::{
-    call::Call,
-    cases::{List, NAMES, OTHERS, settings},
+    call,
+    cases::{OTHERS, settings},
     numbers,
     rules::Gate,
-    setting::Setting,
+    setting::{NAMES, Setting},
 };
 use crate::{
+    calls::{Call, List},
     limits::LONGEST_BLOCK,
     numbers::{RATES_REFUSED, SMOOTHING_REFUSED, refused_sample},
     signals,
 };
 
-impl List<'_> {
+impl List<'_, Gate> {
     /// A gate made and set, or handed back, and blocks on it between calls that change it or are
     /// refused.
     pub(super) fn session(&mut self) {
@@ -28,10 +29,10 @@ impl List<'_> {
         if self.random.below(4) > 0 {
             self.made(&gate);
         } else {
-            self.add(Call::Load(gate));
+            self.add(call::load(gate));
         }
         for _ in 0..self.random.between(1, 8) {
-            let length = self.length();
+            let length = signals::length(self.random);
             self.drawn(&gate, length);
             match self.random.below(6) {
                 0 => self.add(Call::Reset),
@@ -47,22 +48,12 @@ impl List<'_> {
         let rate = self.random.pick(&RATES_REFUSED);
         let c = self.random.pick(&SMOOTHING_REFUSED);
         let making = match self.random.below(3) {
-            0 => Call::Make(rate, 0.5, c),
-            1 => Call::Make(48_000.0, 0.5, c),
-            _ => Call::Make(48_000.0, c, 0.5),
+            0 => call::make(rate, 0.5, c),
+            1 => call::make(48_000.0, 0.5, c),
+            _ => call::make(48_000.0, c, 0.5),
         };
         self.add(making);
         self.add(Call::Block(vec![0.5; 3], 3));
-    }
-
-    /// Mostly short, so that much happens between blocks.
-    fn length(&mut self) -> usize {
-        let random = &mut *self.random;
-        match random.below(64) {
-            0 => random.pick(&[0, 1, 2, LONGEST_BLOCK - 1, LONGEST_BLOCK]),
-            1..4 => random.below(LONGEST_BLOCK as u64) as usize,
-            _ => random.below(500) as usize,
-        }
     }
 
     /// A setting as another gate has it; `gate` with it taken.
@@ -83,7 +74,7 @@ impl List<'_> {
             }
             1..10 => {
                 let name = self.random.pick(&OTHERS);
-                self.add(Call::SetNamed(name.into(), 1.0, 0.5));
+                self.add(call::named(name, 1.0, 0.5));
             }
             10..30 => {
                 let setting = numbers::refused_setting(self.random);
@@ -104,9 +95,9 @@ impl List<'_> {
 
     /// Every call on a gate that 9 refuses, some refused by more.
     pub(super) fn refused_by_9(&mut self, gate: Gate) {
-        self.add(Call::Load(gate));
+        self.add(call::load(gate));
         self.set(Setting::Hold(f32::NAN), 0.0);
-        self.add(Call::SetNamed(b"none".into(), 1.0, 1.0));
+        self.add(call::named(b"none", 1.0, 1.0));
         let name = self.random.pick(&NAMES);
         self.add(Call::Read(name.into()));
         self.add(Call::Read(b"none".into()));

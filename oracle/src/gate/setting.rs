@@ -12,6 +12,8 @@ pub enum Setting {
     Hold(f32),
 }
 
+pub const NAMES: [&str; 5] = ["threshold", "ratio", "attack", "release", "hold"];
+
 impl Setting {
     /// The setting that a name asks for, with the numbers beside it.
     pub fn named(name: &[u8], value: f32, worked: f32) -> Option<Self> {
@@ -25,14 +27,19 @@ impl Setting {
         }
     }
 
-    pub const fn name(self) -> &'static str {
+    /// Its number, and its name's place.
+    pub const fn which(self) -> u32 {
         match self {
-            Self::Threshold(..) => "threshold",
-            Self::Ratio(_) => "ratio",
-            Self::Attack(..) => "attack",
-            Self::Release(..) => "release",
-            Self::Hold(_) => "hold",
+            Self::Threshold(..) => 0,
+            Self::Ratio(_) => 1,
+            Self::Attack(..) => 2,
+            Self::Release(..) => 3,
+            Self::Hold(_) => 4,
         }
+    }
+
+    pub const fn name(self) -> &'static str {
+        NAMES[self.which() as usize]
     }
 
     pub const fn value(self) -> f32 {

@@ -113,6 +113,7 @@ impl Saturator {
 }
 
 impl Drawn for Saturator {
+    const BYTES: usize = 4 * 89;
     const SEED: u64 = 7;
     const STORED: u64 = 120_000;
 

@@ -105,8 +105,6 @@ fn band(x: f32, drive: f32, [attack, release, c]: [f32; 3], registers: &mut [f32
 impl Rules for Saturator {
     type Rust = Rust;
 
-    const BYTES: usize = 4 * 89;
-
     /// 5, then 4.
     fn make(_: u32, rate: f32, mut worked: Taker) -> Result<Self, u32> {
         if !is_rate(rate) {

@@ -37,6 +37,7 @@ fn setting(which: usize, value: f32, factor: f32) -> Setting {
 }
 
 impl Drawn for Tone {
+    const BYTES: usize = 44;
     const SEED: u64 = 6;
     const STORED: u64 = 150_000;
 

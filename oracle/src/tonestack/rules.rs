@@ -65,8 +65,6 @@ impl Tone {
 impl Rules for Tone {
     type Rust = Rust;
 
-    const BYTES: usize = 44;
-
     fn make(model: u32, rate: f32, _: Taker) -> Result<Self, u32> {
         if !is_rate(rate) {
             return Err(5);

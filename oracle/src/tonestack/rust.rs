@@ -54,7 +54,7 @@ impl calls::Rust<Tone> for Rust {
         value.is_nan()
     }
 
-    fn block(&mut self, state: &Tone, samples: &mut [f32]) {
+    fn block(&mut self, state: &Tone, samples: &mut [f32]) -> Vec<bool> {
         let factor = state.factor;
         with_power(
             move |_, _| factor,
@@ -64,5 +64,6 @@ impl calls::Rust<Tone> for Rust {
                 }
             },
         );
+        Vec::new()
     }
 }

@@ -1,6 +1,6 @@
 -- `bits::exponent_of` meets its contract. Assumes nothing.
 use mathlib.Core.Path.{sym, ap, _∙_}
-use Prim.Native.Nat.{ℕ, _-_, _*_}
+use Prim.Native.Nat.{ℕ, _*_}
 use native.Mathlib.Nat.{zero-mul, mul-comm}
 use Rattle.rounding.proofs.Terms.{exponent-none, exponent-some, factor-none}
 use Rattle.bits.proofs.exponent_of.Statement.{statement}

@@ -1,6 +1,6 @@
 -- `bits::nearest_far` meets its contract. Assumes nothing.
 use mathlib.Core.Path.{_≡_, sym, ap, _∙_}
-use Prim.Native.Nat.{ℕ, _^_, _≤_}
+use Prim.Native.Nat.{ℕ, _^_}
 use native.Mathlib.Omega.{arith}
 use lib.Ieee.Nearest.{closest}
 use Rattle.rounding.proofs.Machine.{nearest-up, nearest-none}

@@ -1,7 +1,7 @@
 -- `bits::sticky` meets its contract. Assumes nothing.
 use borrow.Author.Needs.{needs}
 use mathlib.Core.Path.{_≡_, sym, ap, _∙_}
-use Prim.Native.Nat.{ℕ, _-_, _%_, _^_}
+use Prim.Native.Nat.{ℕ, _%_, _^_}
 use native.Mathlib.Omega.{arith}
 use lib.Pow.{pow-pos, shr-le}
 use Rattle.rounding.proofs.Fused.{stick-whole}

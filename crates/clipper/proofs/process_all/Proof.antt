@@ -6,7 +6,6 @@ use lib.Ieee.{nan}
 use Rattle.fold.proofs.Block.{Upto, start, onward, ended}
 use Rattle.clipper.proofs.Each.{stays, written, each}
 use borrow.Author.Needs.{needs}
-use borrow.Author.Needs.{needs}
 use Rattle.clipper.proofs.process_all.Statement.{statement}
 use Rattle.clipper.proofs.process_all.Tie as tie
 

@@ -1,5 +1,4 @@
 -- `double_general::finite` meets its contract. Assumes nothing.
-use Prim.Native.Nat.{_-_}
 use native.Mathlib.Omega.{arith}
 use mathlib.Core.Bool.{false}
 use Rattle.rounding.proofs.Terms.{no-nan, infinity, finite-above, finite-not-below}

@@ -1,13 +1,10 @@
 -- `single::fma` meets its contract. Assumes nothing.
-use mathlib.Core.Path.{_≡_, refl, sym, _∙_, subst}
+use mathlib.Core.Path.{sym, _∙_, subst}
 use mathlib.Core.Logic.{inl, inr, ⊎-elim}
-use Prim.Native.Nat.{_+_}
 use native.Mathlib.Omega.{arith}
-use mathlib.Core.Bool.{not}
 use lib.Dec.{T}
 use lib.Ieee.{binary32, fits, toBits}
 use lib.Ieee.Bits.{toBits-lt}
-use Rattle.rounding.specs.Steps.{Near}
 use Rattle.rounding.proofs.Nan.{is-nan, not-nan, fma-nan, quotient}
 use Rattle.rounding.proofs.Terms.{fma-of-patterns}
 use Rattle.rounding.proofs.Nearby.{near-of, unwrapped}

@@ -3,8 +3,7 @@
 use borrow.Author.Needs.{needs}
 use native.Mathlib.Omega.{arith}
 use lib.ListN.{length}
-use mathlib.Core.Path.{_∙_}
-use Rattle.words.proofs.Inside.{lacks, has}
+use Rattle.words.proofs.Inside.{lacks, put-halves}
 use Rattle.words.specs.Words.{put32At}
 use Rattle.words.proofs.put_u32.Statement.{statement}
 use Rattle.words.proofs.put_u32.Tie as tie
@@ -18,17 +17,39 @@ returns c =
     let a = c .before .before .before .args in
     lacks (length (a .s .now)) (a .at) 4 _ _ (omega arith)
 
-put32-requires : tie.Need-put32-requires
-put32-requires c κs = search needs
+cast-put-u16 : tie.Need-cast-put-u16
+cast-put-u16 c = search needs
+
+put-u16-requires : tie.Need-put-u16-requires
+put-u16-requires c κs = search needs
+
+add-put-u16 : tie.Need-add-put-u16
+add-put-u16 c = search needs
+
+cast-put-u16-2 : tie.Need-cast-put-u16-2
+cast-put-u16-2 c = search needs
+
+put-u16-requires-2 : tie.Need-put-u16-requires-2
+put-u16-requires-2 c κs = search needs
 
 same-length : tie.Need-same-length
 same-length c = search needs
 
 returns-2 : tie.Need-returns-2
-unfolding put32At
 returns-2 c =
-    let a = c .before .before .before .before .before .before .before .args in
-    c .before .before .put32 .ensures ∙ has (length (a .s .now)) (a .at) 4 _ _ (omega arith) (omega arith)
+    let a = c .before .before .before .before .before .before .before .before .before .before .before .args in
+    rw (c .before .before .put-u162 .ensures, c .before .before .before .before .before .before .put-u16 .ensures) (put-halves (a .s .now) (a .at) (omega arith) (a .n))
 
 pub put-u32-spec : {M : Type 1} → statement M
-put-u32-spec = tie.close (tie.spec room-requires returns put32-requires same-length returns-2)
+put-u32-spec =
+    tie.close
+    (tie.spec
+    room-requires
+    returns
+    cast-put-u16
+    put-u16-requires
+    add-put-u16
+    cast-put-u16-2
+    put-u16-requires-2
+    same-length
+    returns-2)

@@ -1,7 +1,7 @@
 -- `double::long::minus` meets its contract. Assumes nothing.
 use mathlib.Core.Path.{_≡_, sym, subst}
-use mathlib.Core.Logic.{_⊎_, ⊎-elim}
-use Prim.Native.Nat.{ℕ, _+_, _-_, _*_, _≤_}
+use mathlib.Core.Logic.{⊎-elim}
+use Prim.Native.Nat.{ℕ, _+_, _-_, _*_}
 use native.Mathlib.Omega.{arith}
 use Rattle.rounding.proofs.Words.{minus-less, minus-more}
 use borrow.Author.Needs.{needs}

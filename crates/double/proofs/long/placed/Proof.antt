@@ -1,5 +1,4 @@
 -- `double::long::placed` meets its contract. Assumes nothing.
-use Prim.Native.Nat.{_-_}
 use native.Mathlib.Omega.{arith}
 use Rattle.rounding.proofs.Words.{placed-is, placed-lt}
 use borrow.Author.Needs.{needs}

@@ -1,7 +1,6 @@
 -- `double::long::top` meets its contract. Assumes nothing.
-use Prim.Native.Nat.{_-_}
 use native.Mathlib.Omega.{arith}
-use Rattle.rounding.proofs.Words.{Head, head}
+use Rattle.rounding.proofs.Words.{head}
 use borrow.Author.Needs.{needs}
 use Rattle.double.proofs.long.top.Statement.{statement}
 use Rattle.double.proofs.long.top.Tie as tie

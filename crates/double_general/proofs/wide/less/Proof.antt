@@ -1,6 +1,6 @@
 -- `double_general::wide::less` meets its contract. Assumes nothing.
 use mathlib.Core.Path.{_≡_}
-use Prim.Native.Nat.{_+_, _-_, _*_, _<_}
+use Prim.Native.Nat.{_+_, _*_, _<_}
 use native.Mathlib.Omega.{arith}
 use Rattle.rounding.proofs.TwoDigits.{same-order}
 use Rattle.double_general.proofs.wide.less.Statement.{statement}

@@ -3,28 +3,12 @@ use mathlib.Core.Path.{sym, _∙_}
 use lib.Ieee.{ofBits}
 use borrow.Author.Tests.{not-true, not-false}
 use Rattle.eq.specs.Calls.{make}
-use borrow.Author.Needs.{needs}
 use Rattle.eq.proofs.calls.make.Statement.{statement}
 use Rattle.eq.proofs.calls.make.Tie as tie
-
-is-rate-requires : tie.Need-is-rate-requires
-is-rate-requires c κs = search needs
-
-flat-requires : tie.Need-flat-requires
-flat-requires c κs = search needs
-
-refused-requires : tie.Need-refused-requires
-refused-requires c κs = search needs
 
 returns : tie.Need-returns
 unfolding make ofBits
 returns c = c .refused .ensures ∙ rw (sym (c .before .before .before .is-rate .ensures) ∙ not-true _ (c .before .before .if1 .taken), c .before .flat .ensures)
-
-flat-requires-2 : tie.Need-flat-requires-2
-flat-requires-2 c κs = search needs
-
-done-requires : tie.Need-done-requires
-done-requires c κs = search needs
 
 returns-2 : tie.Need-returns-2
 unfolding make ofBits
@@ -34,10 +18,10 @@ pub make-spec : {M : Type 1} → statement M
 make-spec =
     tie.close
     (tie.spec
-    is-rate-requires
-    flat-requires
-    refused-requires
+    (λ c κs. tt)
+    (λ c κs. tt)
+    (λ c κs. tt)
     returns
-    flat-requires-2
-    done-requires
+    (λ c κs. tt)
+    (λ c κs. tt)
     returns-2)

@@ -6,15 +6,9 @@ use borrow.Author.Needs.{needs}
 use Rattle.eq.proofs.calls.read.Statement.{statement}
 use Rattle.eq.proofs.calls.read.Tie as tie
 
-acceptable-requires : tie.Need-acceptable-requires
-acceptable-requires c κs = search needs
-
 returns : tie.Need-returns
 unfolding read
 returns c = rw (sym (c .before .acceptable .ensures) ∙ not-true _ (c .if1 .taken))
-
-index-of-requires : tie.Need-index-of-requires
-index-of-requires c κs = search needs
 
 enum-known-i : tie.Need-enum-known-i
 enum-known-i c = search needs
@@ -52,9 +46,9 @@ pub read-spec : {M : Type 1} → statement M
 read-spec =
     tie.close
     (tie.spec
-    acceptable-requires
+    (λ c κs. tt)
     returns
-    index-of-requires
+    (λ c κs. tt)
     enum-known-i
     enum-told
     returns-2

@@ -2,25 +2,12 @@
 use mathlib.Core.Path.{sym, _∙_}
 use borrow.Author.Tests.{not-true, not-false}
 use Rattle.eq.specs.Calls.{reset}
-use borrow.Author.Needs.{needs}
 use Rattle.eq.proofs.calls.reset.Statement.{statement}
 use Rattle.eq.proofs.calls.reset.Tie as tie
-
-acceptable-requires : tie.Need-acceptable-requires
-acceptable-requires c κs = search needs
-
-refused-requires : tie.Need-refused-requires
-refused-requires c κs = search needs
 
 returns : tie.Need-returns
 unfolding reset
 returns c = c .refused .ensures ∙ rw (sym (c .before .before .acceptable .ensures) ∙ not-true _ (c .before .if1 .taken))
-
-at-rest-requires : tie.Need-at-rest-requires
-at-rest-requires c κs = search needs
-
-done-requires : tie.Need-done-requires
-done-requires c κs = search needs
 
 returns-2 : tie.Need-returns-2
 unfolding reset
@@ -30,9 +17,9 @@ pub reset-spec : {M : Type 1} → statement M
 reset-spec =
     tie.close
     (tie.spec
-    acceptable-requires
-    refused-requires
+    (λ c κs. tt)
+    (λ c κs. tt)
     returns
-    at-rest-requires
-    done-requires
+    (λ c κs. tt)
+    (λ c κs. tt)
     returns-2)

@@ -6,27 +6,15 @@ use borrow.Author.Needs.{needs}
 use Rattle.eq.proofs.calls.set.Statement.{statement}
 use Rattle.eq.proofs.calls.set.Tie as tie
 
-acceptable-requires : tie.Need-acceptable-requires
-acceptable-requires c κs = search needs
-
-refused-requires : tie.Need-refused-requires
-refused-requires c κs = search needs
-
 returns : tie.Need-returns
 unfolding set
 returns c = c .refused .ensures ∙ rw (sym (c .before .before .acceptable .ensures) ∙ not-true _ (c .before .if1 .taken))
-
-find-requires : tie.Need-find-requires
-find-requires c κs = search needs
 
 enum-known-i : tie.Need-enum-known-i
 enum-known-i c = search needs
 
 enum-told : tie.Need-enum-told
 enum-told c = search needs
-
-refused-requires-2 : tie.Need-refused-requires-2
-refused-requires-2 c κs = search needs
 
 returns-2 : tie.Need-returns-2
 unfolding set setFound
@@ -35,9 +23,6 @@ returns-2 c =
     let found = unknown .before .before in
     let accepted = found .before in
     c .refused2 .ensures ∙ rw (sym (accepted .before .acceptable .ensures) ∙ not-false _ (accepted .if1 .left), sym (found .find .ensures) ∙ unknown .enum-told .given .1)
-
-set-band-requires : tie.Need-set-band-requires
-set-band-requires c κs = search needs
 
 returns-3 : tie.Need-returns-3
 unfolding set setFound
@@ -51,13 +36,13 @@ pub set-spec : {M : Type 1} → statement M
 set-spec =
     tie.close
     (tie.spec
-    acceptable-requires
-    refused-requires
+    (λ c κs. tt)
+    (λ c κs. tt)
     returns
-    find-requires
+    (λ c κs. tt)
     enum-known-i
     enum-told
-    refused-requires-2
+    (λ c κs. tt)
     returns-2
-    set-band-requires
+    (λ c κs. tt)
     returns-3)

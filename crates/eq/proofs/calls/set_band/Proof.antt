@@ -6,30 +6,15 @@ use borrow.Author.Needs.{needs}
 use Rattle.eq.proofs.calls.set_band.Statement.{statement}
 use Rattle.eq.proofs.calls.set_band.Tie as tie
 
-acceptable-requires : tie.Need-acceptable-requires
-acceptable-requires c κs = search needs
-
-refused-requires : tie.Need-refused-requires
-refused-requires c κs = search needs
-
 returns : tie.Need-returns
 unfolding setBand
 returns c = c .refused .ensures ∙ rw (sym (c .before .before .acceptable .ensures) ∙ not-true _ (c .before .if1 .taken))
-
-refused-requires-2 : tie.Need-refused-requires-2
-refused-requires-2 c κs = search needs
 
 returns-2 : tie.Need-returns-2
 unfolding setBand
 returns-2 c =
     let accepted = c .before .before in
     c .refused2 .ensures ∙ rw (sym (accepted .before .acceptable .ensures) ∙ not-false _ (accepted .if1 .left), le-ltb _ _ (c .before .if2 .taken))
-
-in-its-range-requires : tie.Need-in-its-range-requires
-in-its-range-requires c κs = search needs
-
-refused-requires-3 : tie.Need-refused-requires-3
-refused-requires-3 c κs = search needs
 
 returns-3 : tie.Need-returns-3
 unfolding setBand
@@ -38,12 +23,6 @@ returns-3 c =
     let there = ranged .before in
     let accepted = there .before in
     c .refused3 .ensures ∙ rw (sym (accepted .before .acceptable .ensures) ∙ not-false _ (accepted .if1 .left), lt-ltb _ _ (there .if2 .left), sym (ranged .in-its-range .ensures) ∙ not-true _ (c .before .if3 .taken))
-
-worked-requires : tie.Need-worked-requires
-worked-requires c κs = search needs
-
-refused-requires-4 : tie.Need-refused-requires-4
-refused-requires-4 c κs = search needs
 
 returns-4 : tie.Need-returns-4
 unfolding setBand
@@ -56,9 +35,6 @@ returns-4 c =
 
 with-band-requires : tie.Need-with-band-requires
 with-band-requires c κs = search needs
-
-done-requires : tie.Need-done-requires
-done-requires c κs = search needs
 
 returns-5 : tie.Need-returns-5
 unfolding setBand
@@ -73,17 +49,17 @@ pub set-band-spec : {M : Type 1} → statement M
 set-band-spec =
     tie.close
     (tie.spec
-    acceptable-requires
-    refused-requires
+    (λ c κs. tt)
+    (λ c κs. tt)
     returns
-    refused-requires-2
+    (λ c κs. tt)
     returns-2
-    in-its-range-requires
-    refused-requires-3
+    (λ c κs. tt)
+    (λ c κs. tt)
     returns-3
-    worked-requires
-    refused-requires-4
+    (λ c κs. tt)
+    (λ c κs. tt)
     returns-4
     with-band-requires
-    done-requires
+    (λ c κs. tt)
     returns-5)

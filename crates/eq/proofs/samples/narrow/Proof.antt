@@ -25,9 +25,6 @@ mul-narrowed c = search needs
 shared-slice-read-narrowed : tie.Need-shared-slice-read-narrowed Inv-loop μ-loop
 shared-slice-read-narrowed c = search needs
 
-narrowed-requires : tie.Need-narrowed-requires Inv-loop μ-loop
-narrowed-requires c κs = search needs
-
 mul-output : tie.Need-mul-output Inv-loop μ-loop
 mul-output c = search needs
 
@@ -58,7 +55,7 @@ narrow-spec =
     loop-holds
     mul-narrowed
     shared-slice-read-narrowed
-    narrowed-requires
+    (λ c κs. tt)
     mul-output
     slice-write-output
     add-i

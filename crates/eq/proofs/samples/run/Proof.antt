@@ -8,16 +8,20 @@ array-borrow-prefix-buffer : tie.Need-array-borrow-prefix-buffer
 array-borrow-prefix-buffer c = search needs
 
 slice-aggregate-run-in : tie.Need-slice-aggregate-run-in
-slice-aggregate-run-in c = part-long _ _ (c .before .before .before .before .pre .1)
+slice-aggregate-run-in c = part-long _ _ (c .before .before .before .before .before .before .pre .1)
 
 run-in-requires : tie.Need-run-in-requires
-run-in-requires c κs = (c .before .before .before .before .pre .0, part-long _ _ (c .before .before .before .before .pre .1))
+run-in-requires c κs =
+    let fit = c .before .before .before .before .before .before .pre in
+    (fit .0, part-long _ _ (fit .1))
 
 same-length : tie.Need-same-length
 same-length c = search needs
 
 returns : tie.Need-returns
-returns c = search needs
+returns c =
+    let ran = c .before .before .before .run-in .ensures in
+    (rw (ran .0), ran .1)
 
 pub run-spec : {M : Type 1} → statement M
 run-spec =

@@ -7,9 +7,6 @@ use Rattle.eq.proofs.samples.run_in.Tie as tie
 widen-requires : tie.Need-widen-requires
 widen-requires c κs = search needs
 
-through-requires : tie.Need-through-requires
-through-requires c κs = search needs
-
 narrow-requires : tie.Need-narrow-requires
 narrow-requires c κs = search needs
 
@@ -27,4 +24,4 @@ returns c =
 pub run-in-spec : {M : Type 1} → statement M
 run-in-spec =
     tie.close
-    (tie.spec widen-requires through-requires narrow-requires same-length same-length-2 returns)
+    (tie.spec widen-requires (λ c κs. tt) narrow-requires same-length same-length-2 returns)

@@ -27,9 +27,6 @@ mul-widened c = search needs
 shared-slice-read-widened : tie.Need-shared-slice-read-widened Inv-loop μ-loop
 shared-slice-read-widened c = search needs
 
-widened-requires : tie.Need-widened-requires Inv-loop μ-loop
-widened-requires c κs = search needs
-
 mul-buffer : tie.Need-mul-buffer Inv-loop μ-loop
 mul-buffer c = search needs
 
@@ -60,7 +57,7 @@ widen-spec =
     loop-holds
     mul-widened
     shared-slice-read-widened
-    widened-requires
+    (λ c κs. tt)
     mul-buffer
     slice-write-buffer
     add-i

@@ -1,15 +1,15 @@
 -- `eq::states::value_at` meets its contract. Assumes nothing.
 use lib.ListN.{length-map}
+use Rattle.eq_bands.proofs.Loop.{band-place}
 use Rattle.eq.proofs.OneBand.{value-there}
-use borrow.Author.Needs.{needs}
 use Rattle.eq.proofs.states.value_at.Statement.{statement}
 use Rattle.eq.proofs.states.value_at.Tie as tie
 
 mul-b : tie.Need-mul-b
-mul-b c = search needs
+mul-b c = record { fits = band-place (c .before .before .pre) }
 
 array-copy-out-b : tie.Need-array-copy-out-b
-array-copy-out-b c = search needs
+array-copy-out-b c = c .before .before .pre
 
 returns : tie.Need-returns
 returns c =

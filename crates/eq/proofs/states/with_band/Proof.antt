@@ -1,42 +1,33 @@
 -- `eq::states::with_band` meets its contract. Assumes nothing.
 use lib.ListN.{length-map}
+use Rattle.eq_bands.proofs.Loop.{band-place, delay-place}
 use Rattle.eq.proofs.OneBand.{band-set}
-use borrow.Author.Needs.{needs}
 use Rattle.eq.proofs.states.with_band.Statement.{statement}
 use Rattle.eq.proofs.states.with_band.Tie as tie
 
 mul-old : tie.Need-mul-old
-mul-old c = search needs
+mul-old c = record { fits = band-place (c .before .before .before .before .pre) }
 
 array-copy-out-old : tie.Need-array-copy-out-old
-array-copy-out-old c = search needs
+array-copy-out-old c = c .before .before .before .before .pre
 
 mul-d : tie.Need-mul-d
-mul-d c = search needs
+mul-d c = record { fits = delay-place (c .before .before .before .before .before .before .pre) }
 
 array-copy-out-d : tie.Need-array-copy-out-d
-array-copy-out-d c = search needs
-
-taken-requires : tie.Need-taken-requires
-taken-requires c κs = search needs
+array-copy-out-d c = c .before .before .before .before .before .before .pre
 
 mul-bands : tie.Need-mul-bands
-mul-bands c = search needs
+mul-bands c = record { fits = band-place (c .before .before .before .before .before .before .before .before .pre) }
 
 array-set-from-bands : tie.Need-array-set-from-bands
-array-set-from-bands c = search needs
-
-clears-requires : tie.Need-clears-requires
-clears-requires c κs = search needs
-
-cleared-requires : tie.Need-cleared-requires
-cleared-requires c κs = search needs
+array-set-from-bands c = c .before .before .before .before .before .before .before .before .pre
 
 mul-delays : tie.Need-mul-delays
-mul-delays c = search needs
+mul-delays c = record { fits = delay-place (c .before .before .before .before .before .before .before .before .before .before .pre) }
 
 array-set-from-delays : tie.Need-array-set-from-delays
-array-set-from-delays c = search needs
+array-set-from-delays c = c .before .before .before .before .before .before .before .before .before .before .pre
 
 returns : tie.Need-returns
 returns c =
@@ -53,11 +44,11 @@ with-band-spec =
     array-copy-out-old
     mul-d
     array-copy-out-d
-    taken-requires
+    (λ c κs. tt)
     mul-bands
     array-set-from-bands
-    clears-requires
-    cleared-requires
+    (λ c κs. tt)
+    (λ c κs. tt)
     mul-delays
     array-set-from-delays
     returns)

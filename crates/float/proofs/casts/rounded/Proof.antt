@@ -1,5 +1,5 @@
 -- `float::casts::rounded` meets its contract. Assumes nothing.
-use mathlib.Core.Path.{sym, ap, _∙_}
+use mathlib.Core.Path.{_∙_}
 use native.Mathlib.Omega.{arith}
 use Rattle.rounding.proofs.Casts.{rounded-normal, rounded-none, rounded-small}
 use borrow.Author.Needs.{needs}

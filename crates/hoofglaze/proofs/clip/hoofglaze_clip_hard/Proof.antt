@@ -1,6 +1,6 @@
 -- `hoofglaze::clip::hoofglaze_clip_hard` meets its contract. Assumes nothing.
 use mathlib.Core.Path.{_∙_}
-use Rattle.hoofglaze.proofs.Clipped.{clipped}
+use Rattle.answer.proofs.Answers.{answer-crosses}
 use borrow.Author.Needs.{needs}
 use Rattle.hoofglaze.proofs.clip.hoofglaze_clip_hard.Statement.{statement}
 use Rattle.hoofglaze.proofs.clip.hoofglaze_clip_hard.Tie as tie
@@ -8,15 +8,15 @@ use Rattle.hoofglaze.proofs.clip.hoofglaze_clip_hard.Tie as tie
 block-requires : tie.Need-block-requires
 block-requires c κs = search needs
 
-answered-requires : tie.Need-answered-requires
-answered-requires c κs = search needs
+of-answer-requires : tie.Need-of-answer-requires
+of-answer-requires c κs = search needs
 
 same-length : tie.Need-same-length
 same-length c = search needs
 
 returns : tie.Need-returns
-returns c = rw (c .answered .ensures) (clipped _ (c .before .before .before .block .result) ∙ c .before .before .before .block .ensures)
+returns c = rw (c .of-answer .ensures) (answer-crosses _ (c .before .before .before .block .result) ∙ c .before .before .before .block .ensures)
 
 pub hoofglaze-clip-hard-spec : {M : Type 1} → statement M
 hoofglaze-clip-hard-spec =
-    tie.close (tie.spec block-requires answered-requires same-length returns)
+    tie.close (tie.spec block-requires of-answer-requires same-length returns)

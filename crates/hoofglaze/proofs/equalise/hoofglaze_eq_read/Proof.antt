@@ -1,7 +1,7 @@
 -- `hoofglaze::equalise::hoofglaze_eq_read` meets its contract. Assumes nothing.
 use mathlib.Core.Path.{ap, _∙_}
-use Rattle.hoofglaze.specs.Answers.{told}
-use Rattle.hoofglaze.proofs.Equalised.{eq-read}
+use Rattle.answer.specs.Crossing.{toldIn}
+use Rattle.answer.proofs.Answers.{reading-crosses}
 use borrow.Author.Needs.{needs}
 use Rattle.hoofglaze.proofs.equalise.hoofglaze_eq_read.Statement.{statement}
 use Rattle.hoofglaze.proofs.equalise.hoofglaze_eq_read.Tie as tie
@@ -9,11 +9,11 @@ use Rattle.hoofglaze.proofs.equalise.hoofglaze_eq_read.Tie as tie
 read-requires : tie.Need-read-requires
 read-requires c κs = search needs
 
-read-requires-2 : tie.Need-read-requires-2
-read-requires-2 c κs = search needs
+of-reading-requires : tie.Need-of-reading-requires
+of-reading-requires c κs = search needs
 
 returns : tie.Need-returns
-returns c = ap (told _) (c .read2 .ensures) ∙ eq-read _ (c .before .read .result) ∙ c .before .read .ensures
+returns c = ap (toldIn _) (c .of-reading .ensures) ∙ reading-crosses _ (c .before .read .result) ∙ c .before .read .ensures
 
 pub hoofglaze-eq-read-spec : {M : Type 1} → statement M
-hoofglaze-eq-read-spec = tie.close (tie.spec read-requires read-requires-2 returns)
+hoofglaze-eq-read-spec = tie.close (tie.spec read-requires of-reading-requires returns)

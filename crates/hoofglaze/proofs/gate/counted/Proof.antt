@@ -4,12 +4,12 @@ use borrow.Author.Needs.{needs}
 use Rattle.hoofglaze.proofs.gate.counted.Statement.{statement}
 use Rattle.hoofglaze.proofs.gate.counted.Tie as tie
 
-done-requires : tie.Need-done-requires
-done-requires c κs = search needs
+of-done-requires : tie.Need-of-done-requires
+of-done-requires c κs = search needs
 
 returns : tie.Need-returns
 unfolding ofBits
-returns c = c .done .ensures
+returns c = c .of-done .ensures
 
 pub counted-spec : {M : Type 1} → statement M
-counted-spec = tie.close (tie.spec done-requires returns)
+counted-spec = tie.close (tie.spec of-done-requires returns)

@@ -1,7 +1,7 @@
 -- `hoofglaze::gate::hoofglaze_gate_block` meets its contract. Assumes nothing.
 use mathlib.Core.Path.{ap, _∙_}
-use Rattle.hoofglaze.specs.Answers.{told}
-use Rattle.hoofglaze.proofs.Answers.{gate-passed}
+use Rattle.answer.specs.Crossing.{toldIn}
+use Rattle.hoofglaze.proofs.Answers.{passage-crosses}
 use borrow.Author.Needs.{needs}
 use Rattle.hoofglaze.proofs.gate.hoofglaze_gate_block.Statement.{statement}
 use Rattle.hoofglaze.proofs.gate.hoofglaze_gate_block.Tie as tie
@@ -17,7 +17,7 @@ same-length c = search needs
 
 returns : tie.Need-returns
 returns c =
-    ap (λ t. (t, c .before .before .before .before .block .last .1 .1 .0)) (ap (told _) (c .passed .ensures) ∙ gate-passed _ (c .before .before .before .before .block .result .answer))
+    ap (λ t. (t, c .before .before .before .before .block .last .1 .1 .0)) (ap (toldIn _) (c .passed .ensures) ∙ passage-crosses _ (c .before .before .before .before .block .result .answer))
     ∙ c .before .before .before .before .block .ensures
 
 pub hoofglaze-gate-block-spec : {M : Type 1} → statement M

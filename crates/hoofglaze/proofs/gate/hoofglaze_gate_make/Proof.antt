@@ -1,7 +1,5 @@
 -- `hoofglaze::gate::hoofglaze_gate_make` meets its contract. Assumes nothing.
-use mathlib.Core.Path.{ap, _∙_}
-use Rattle.hoofglaze.specs.Answers.{told}
-use Rattle.hoofglaze.proofs.Answers.{gate-answered}
+use mathlib.Core.Path.{_∙_}
 use borrow.Author.Needs.{needs}
 use Rattle.hoofglaze.proofs.gate.hoofglaze_gate_make.Statement.{statement}
 use Rattle.hoofglaze.proofs.gate.hoofglaze_gate_make.Tie as tie
@@ -9,11 +7,11 @@ use Rattle.hoofglaze.proofs.gate.hoofglaze_gate_make.Tie as tie
 make-requires : tie.Need-make-requires
 make-requires c κs = search needs
 
-answered-requires : tie.Need-answered-requires
-answered-requires c κs = search needs
+crossed-requires : tie.Need-crossed-requires
+crossed-requires c κs = search needs
 
 returns : tie.Need-returns
-returns c = ap (told _) (c .answered .ensures) ∙ gate-answered _ (c .before .before .make .result .answer) ∙ c .before .before .make .ensures
+returns c = c .crossed .ensures ∙ c .before .make .ensures
 
 pub hoofglaze-gate-make-spec : {M : Type 1} → statement M
-hoofglaze-gate-make-spec = tie.close (tie.spec make-requires answered-requires returns)
+hoofglaze-gate-make-spec = tie.close (tie.spec make-requires crossed-requires returns)

@@ -1,7 +1,5 @@
 -- `hoofglaze::gate::set_typed` meets its contract. Assumes nothing.
-use mathlib.Core.Path.{ap, _∙_}
-use Rattle.hoofglaze.specs.Answers.{told}
-use Rattle.hoofglaze.proofs.Answers.{gate-answered}
+use mathlib.Core.Path.{_∙_}
 use borrow.Author.Needs.{needs}
 use Rattle.hoofglaze.proofs.gate.set_typed.Statement.{statement}
 use Rattle.hoofglaze.proofs.gate.set_typed.Tie as tie
@@ -9,11 +7,11 @@ use Rattle.hoofglaze.proofs.gate.set_typed.Tie as tie
 set-typed-requires : tie.Need-set-typed-requires
 set-typed-requires c κs = search needs
 
-answered-requires : tie.Need-answered-requires
-answered-requires c κs = search needs
+crossed-requires : tie.Need-crossed-requires
+crossed-requires c κs = search needs
 
 returns : tie.Need-returns
-returns c = ap (told _) (c .answered .ensures) ∙ gate-answered _ (c .before .before .set-typed .result .answer) ∙ c .before .before .set-typed .ensures
+returns c = c .crossed .ensures ∙ c .before .set-typed .ensures
 
 pub set-typed-spec : {M : Type 1} → statement M
-set-typed-spec = tie.close (tie.spec set-typed-requires answered-requires returns)
+set-typed-spec = tie.close (tie.spec set-typed-requires crossed-requires returns)

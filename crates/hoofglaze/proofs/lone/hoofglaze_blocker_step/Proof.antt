@@ -1,7 +1,7 @@
 -- `hoofglaze::lone::hoofglaze_blocker_step` meets its contract. Assumes nothing.
 use mathlib.Core.Path.{ap, _∙_}
-use Rattle.hoofglaze.specs.Answers.{told}
-use Rattle.hoofglaze.proofs.Answers.{lone-stepped}
+use Rattle.answer.specs.Crossing.{toldIn}
+use Rattle.answer.proofs.Answers.{reading-crosses}
 use borrow.Author.Needs.{needs}
 use Rattle.hoofglaze.proofs.lone.hoofglaze_blocker_step.Statement.{statement}
 use Rattle.hoofglaze.proofs.lone.hoofglaze_blocker_step.Tie as tie
@@ -9,11 +9,11 @@ use Rattle.hoofglaze.proofs.lone.hoofglaze_blocker_step.Tie as tie
 step-requires : tie.Need-step-requires
 step-requires c κs = search needs
 
-stepped-requires : tie.Need-stepped-requires
-stepped-requires c κs = search needs
+of-reading-requires : tie.Need-of-reading-requires
+of-reading-requires c κs = search needs
 
 returns : tie.Need-returns
-returns c = ap (told _) (c .stepped .ensures) ∙ lone-stepped _ (c .before .before .step .result .output) ∙ c .before .before .step .ensures
+returns c = ap (toldIn _) (c .of-reading .ensures) ∙ reading-crosses _ (c .before .before .step .result .output) ∙ c .before .before .step .ensures
 
 pub hoofglaze-blocker-step-spec : {M : Type 1} → statement M
-hoofglaze-blocker-step-spec = tie.close (tie.spec step-requires stepped-requires returns)
+hoofglaze-blocker-step-spec = tie.close (tie.spec step-requires of-reading-requires returns)

@@ -1,7 +1,9 @@
 -- `multiband_saturator::calls::make` meets its contract. Assumes nothing.
 use mathlib.Core.Path.{sym, _∙_}
 use borrow.Author.Tests.{not-true, not-false}
-use Rattle.multiband_saturator.specs.Calls.{make}
+use lib.Ieee.{ofBits}
+use Rattle.answer.specs.Figures.{f32}
+use Rattle.multiband_saturator.specs.Calls.{made, make}
 use borrow.Author.Needs.{needs}
 use Rattle.multiband_saturator.proofs.calls.make.Statement.{statement}
 use Rattle.multiband_saturator.proofs.calls.make.Tie as tie
@@ -29,20 +31,16 @@ returns-2 c =
     let rated = lent .before in
     c .unmade2 .ensures ∙ rw (sym (rated .before .is-rate .ensures) ∙ not-false _ (rated .if1 .left), sym (lent .lent .ensures) ∙ not-true _ (c .before .if2 .taken))
 
-made-settings-requires : tie.Need-made-settings-requires
-made-settings-requires c κs = search needs
-
-at-rest-requires : tie.Need-at-rest-requires
-at-rest-requires c κs = search needs
+fresh-requires : tie.Need-fresh-requires
+fresh-requires c κs = search needs
 
 returns-3 : tie.Need-returns-3
-unfolding make
+unfolding make made f32 ofBits
 returns-3 c =
-    let set = c .before in
-    let accepted = set .before in
+    let accepted = c .before in
     let lent = accepted .before in
     let rated = lent .before in
-    rw (sym (rated .before .is-rate .ensures) ∙ not-false _ (rated .if1 .left), sym (lent .lent .ensures) ∙ not-false _ (accepted .if2 .left), set .made-settings .ensures, c .at-rest .ensures)
+    rw (sym (rated .before .is-rate .ensures) ∙ not-false _ (rated .if1 .left), sym (lent .lent .ensures) ∙ not-false _ (accepted .if2 .left), c .fresh .ensures)
 
 pub make-spec : {M : Type 1} → statement M
 make-spec =
@@ -54,6 +52,5 @@ make-spec =
     lent-requires
     unmade-requires-2
     returns-2
-    made-settings-requires
-    at-rest-requires
+    fresh-requires
     returns-3)

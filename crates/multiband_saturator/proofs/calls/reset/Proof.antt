@@ -22,7 +22,7 @@ at-rest-requires c κs = search needs
 returns-2 : tie.Need-returns-2
 unfolding reset
 returns-2 c =
-    let accepted = c .before .before in
+    let accepted = c .before in
     rw (sym (accepted .before .settable .ensures) ∙ not-false _ (accepted .if1 .left), c .at-rest .ensures)
 
 pub reset-spec : {M : Type 1} → statement M

@@ -49,12 +49,11 @@ with-setting-requires c κs = search needs
 returns-4 : tie.Need-returns-4
 unfolding setTyped
 returns-4 c =
-    let set = c .before in
-    let taken = set .before in
+    let taken = c .before in
     let numbered = taken .before in
     let ranged = numbered .before .before in
     let accepted = ranged .before in
-    rw (sym (accepted .before .settable .ensures) ∙ not-false _ (accepted .if1 .left), sym (ranged .in-its-range .ensures) ∙ not-false _ (numbered .before .if2 .left), sym (numbered .worked .ensures) ∙ not-false _ (taken .if3 .left), set .with-setting .ensures)
+    rw (sym (accepted .before .settable .ensures) ∙ not-false _ (accepted .if1 .left), sym (ranged .in-its-range .ensures) ∙ not-false _ (numbered .before .if2 .left), sym (numbered .worked .ensures) ∙ not-false _ (taken .if3 .left), c .with-setting .ensures)
 
 pub set-typed-spec : {M : Type 1} → statement M
 set-typed-spec =

@@ -5,7 +5,7 @@ use lib.ListN.{length}
 use lib.Ieee.{nan}
 use Rattle.fold.proofs.Block.{Upto, start, onward, ended}
 use borrow.Author.Needs.{needs}
-use Rattle.saturator_sample.specs.Step.{output as given, next, step}
+use Rattle.multiband_saturator_sample.specs.Step.{output as given, next, step}
 use Rattle.multiband_saturator.proofs.samples.run.Statement.{statement}
 use Rattle.multiband_saturator.proofs.samples.run.Tie as tie
 
@@ -28,7 +28,7 @@ step-requires : tie.Need-step-requires Inv-loop μ-loop
 step-requires c κs = search needs
 
 mul-output : tie.Need-mul-output Inv-loop μ-loop
-mul-output c = record { fits = omega (arith, c .before .before .before .before .before .before .before .good .1 .1 .0 .1) }
+mul-output c = record { fits = omega (arith, c .before .before .before .before .before .before .good .1 .1 .0 .1) }
 
 slice-write-output : tie.Need-slice-write-output Inv-loop μ-loop
 slice-write-output c = search needs

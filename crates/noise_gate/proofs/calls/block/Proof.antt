@@ -1,6 +1,8 @@
 -- `noise_gate::calls::block` meets its contract. Assumes nothing.
 use mathlib.Core.Path.{sym, _∙_}
-use borrow.Author.Tests.{not-true, not-false, eqb-true, le-leb, lt-leb}
+use borrow.Author.Tests.{not-true, not-false}
+use Rattle.answer.specs.Blocks.{checkedBlock}
+use Rattle.answer.proofs.Blocks.{accepted as accepted-block}
 use Rattle.noise_gate.specs.Calls.{block}
 use borrow.Author.Needs.{needs}
 use Rattle.noise_gate.proofs.calls.block.Statement.{statement}
@@ -9,90 +11,55 @@ use Rattle.noise_gate.proofs.calls.block.Tie as tie
 acceptable-requires : tie.Need-acceptable-requires
 acceptable-requires c κs = search needs
 
-stopped-requires : tie.Need-stopped-requires
-stopped-requires c κs = search needs
-
 returns : tie.Need-returns
-unfolding block
-returns c = rw (c .stopped .ensures, sym (c .before .before .acceptable .ensures) ∙ not-true _ (c .before .if1 .taken))
+unfolding block checkedBlock
+returns c = rw (sym (c .before .acceptable .ensures) ∙ not-true _ (c .if1 .taken))
 
-lengths-agree-requires : tie.Need-lengths-agree-requires
-lengths-agree-requires c κs = search needs
+check-block-requires : tie.Need-check-block-requires
+check-block-requires c κs = search needs
 
-stopped-requires-2 : tie.Need-stopped-requires-2
-stopped-requires-2 c κs = search needs
+enum-known-found : tie.Need-enum-known-found
+enum-known-found c = search needs
 
 returns-2 : tie.Need-returns-2
-unfolding block
+unfolding block checkedBlock
 returns-2 c =
-    let agree = c .before .before in
-    let accepted = agree .before in
-    rw (c .stopped2 .ensures, sym (accepted .before .acceptable .ensures) ∙ not-false _ (accepted .if1 .left), sym (agree .lengths-agree .ensures) ∙ not-true _ (c .before .if2 .taken))
+    let found = c .before in
+    let checked = found .before .before in
+    let accepted = checked .before in
+    rw (sym (accepted .before .acceptable .ensures) ∙ not-false _ (accepted .if1 .left), sym (checked .check-block .ensures) ∙ found .found .given .1)
 
-at-most-requires : tie.Need-at-most-requires
-at-most-requires c κs = search needs
-
-stopped-requires-3 : tie.Need-stopped-requires-3
-stopped-requires-3 c κs = search needs
-
-returns-3 : tie.Need-returns-3
-unfolding block
-returns-3 c =
-    let few = c .before .before in
-    let agree = few .before .before in
-    let accepted = agree .before in
-    rw (c .stopped3 .ensures, sym (accepted .before .acceptable .ensures) ∙ not-false _ (accepted .if1 .left), sym (agree .lengths-agree .ensures) ∙ not-false _ (few .before .if2 .left), sym (few .at-most .ensures) ∙ not-true _ (c .before .if3 .taken))
-
-first-refused-requires : tie.Need-first-refused-requires
-first-refused-requires c κs = search needs
-
-stopped-requires-4 : tie.Need-stopped-requires-4
-stopped-requires-4 c κs = search needs
-
-returns-4 : tie.Need-returns-4
-unfolding block
-returns-4 c =
-    let found = c .before .before in
-    let few = found .before .before in
-    let agree = few .before .before in
-    let accepted = agree .before in
-    rw (c .stopped4 .ensures, sym (accepted .before .acceptable .ensures) ∙ not-false _ (accepted .if1 .left), sym (agree .lengths-agree .ensures) ∙ not-false _ (few .before .if2 .left), sym (few .at-most .ensures) ∙ not-false _ (found .before .if3 .left), ← (found .first-refused .ensures), lt-leb _ _ (c .before .if4 .taken))
+enum-told : tie.Need-enum-told
+enum-told c = search needs
 
 run-requires : tie.Need-run-requires
 run-requires c κs =
-    let few = c .before .before .before .before .before .before in
-    eqb-true _ _ (sym (few .before .before .lengths-agree .ensures) ∙ not-false _ (few .before .if2 .left))
+    let passed = c .before in
+    let checked = passed .before .before in
+    accepted-block _ _ (sym (checked .check-block .ensures) ∙ passed .enum-told .given .1) .agree
 
 same-length : tie.Need-same-length
 same-length c = search needs
 
-returns-5 : tie.Need-returns-5
-unfolding block
-returns-5 c =
-    let ran = c .before .before .before in
-    let clear = ran .before .before .before .before in
-    let found = clear .before in
-    let few = found .before .before in
-    let agree = few .before .before in
-    let accepted = agree .before in
-    rw (sym (accepted .before .acceptable .ensures) ∙ not-false _ (accepted .if1 .left), sym (agree .lengths-agree .ensures) ∙ not-false _ (few .before .if2 .left), sym (few .at-most .ensures) ∙ not-false _ (found .before .if3 .left), ← (found .first-refused .ensures), le-leb _ _ (clear .if4 .left), ran .run .ensures .0, ran .run .ensures .1, ran .run .ensures .2)
+returns-3 : tie.Need-returns-3
+unfolding block checkedBlock
+returns-3 c =
+    let ran = c .before .before in
+    let passed = ran .before .before in
+    let checked = passed .before .before in
+    let accepted = checked .before in
+    rw (sym (accepted .before .acceptable .ensures) ∙ not-false _ (accepted .if1 .left), sym (checked .check-block .ensures) ∙ passed .enum-told .given .1) (ran .run .ensures)
 
 pub block-spec : {M : Type 1} → statement M
 block-spec =
     tie.close
     (tie.spec
     acceptable-requires
-    stopped-requires
     returns
-    lengths-agree-requires
-    stopped-requires-2
+    check-block-requires
+    enum-known-found
     returns-2
-    at-most-requires
-    stopped-requires-3
-    returns-3
-    first-refused-requires
-    stopped-requires-4
-    returns-4
+    enum-told
     run-requires
     same-length
-    returns-5)
+    returns-3)

@@ -36,7 +36,7 @@ kept-requires c κs = search needs
 returns-3 : tie.Need-returns-3
 unfolding read readFound ofBits
 returns-3 c =
-    let known = c .before .before .before in
+    let known = c .before .before in
     let found = known .before .before in
     let accepted = found .before in
     rw (sym (accepted .before .acceptable .ensures) ∙ not-false _ (accepted .if1 .left), sym (found .find .ensures) ∙ known .t .given .1, c .kept .ensures)

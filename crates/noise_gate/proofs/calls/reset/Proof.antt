@@ -17,11 +17,14 @@ returns : tie.Need-returns
 unfolding reset
 returns c = c .refused .ensures ∙ rw (sym (c .before .before .acceptable .ensures) ∙ not-true _ (c .before .if1 .taken))
 
+done-requires : tie.Need-done-requires
+done-requires c κs = search needs
+
 returns-2 : tie.Need-returns-2
 unfolding reset ofBits
 returns-2 c =
     let accepted = c .before in
-    rw (sym (accepted .before .acceptable .ensures) ∙ not-false _ (accepted .if1 .left))
+    c .done .ensures ∙ rw (sym (accepted .before .acceptable .ensures) ∙ not-false _ (accepted .if1 .left))
 
 pub reset-spec : {M : Type 1} → statement M
-reset-spec = tie.close (tie.spec acceptable-requires refused-requires returns returns-2)
+reset-spec = tie.close (tie.spec acceptable-requires refused-requires returns done-requires returns-2)

@@ -46,14 +46,17 @@ returns-3 c =
 with-setting-requires : tie.Need-with-setting-requires
 with-setting-requires c κs = search needs
 
+done-requires : tie.Need-done-requires
+done-requires c κs = search needs
+
 returns-4 : tie.Need-returns-4
 unfolding setTyped
 returns-4 c =
-    let taken = c .before .before .before in
+    let taken = c .before .before in
     let numbered = taken .before in
     let ranged = numbered .before .before in
     let accepted = ranged .before in
-    rw (sym (accepted .before .acceptable .ensures) ∙ not-false _ (accepted .if1 .left), sym (ranged .in-its-range .ensures) ∙ not-false _ (numbered .before .if2 .left), sym (numbered .worked .ensures) ∙ not-false _ (taken .if3 .left), c .with-setting .ensures)
+    c .done .ensures ∙ rw (sym (accepted .before .acceptable .ensures) ∙ not-false _ (accepted .if1 .left), sym (ranged .in-its-range .ensures) ∙ not-false _ (numbered .before .if2 .left), sym (numbered .worked .ensures) ∙ not-false _ (taken .if3 .left), c .before .with-setting .ensures)
 
 pub set-typed-spec : {M : Type 1} → statement M
 set-typed-spec =
@@ -69,4 +72,5 @@ set-typed-spec =
     refused-requires-3
     returns-3
     with-setting-requires
+    done-requires
     returns-4)

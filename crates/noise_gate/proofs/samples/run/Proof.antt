@@ -7,7 +7,7 @@ use lib.Ieee.{nan}
 use Rattle.fold.specs.Fold.{more}
 use Rattle.fold.proofs.Block.{Upto, start, onward, ended, Counted, counts, skips, start-count, onward-count, ended-count}
 use borrow.Author.Needs.{needs}
-use Rattle.gate_sample.specs.Step.{aim, output as given, next, step}
+use Rattle.noise_gate_sample.specs.Step.{aim, output as given, next, step}
 use Rattle.noise_gate.proofs.samples.run.Statement.{statement}
 use Rattle.noise_gate.proofs.samples.run.Tie as tie
 
@@ -60,7 +60,7 @@ same-length c = search needs
 returns : tie.Need-returns Inv-loop μ-loop
 returns c =
     let e = ended _ _ (c .before .loop .inv .0) (c .before .before .before .before .pre) (c .loop-test .left) in
-    (e .0, e .1, ended-count _ _ (c .before .loop .inv .1) (c .loop-test .left))
+    rw (e .0, e .1, ended-count _ _ (c .before .loop .inv .1) (c .loop-test .left))
 
 pub run-spec : {M : Type 1} → statement M
 run-spec =

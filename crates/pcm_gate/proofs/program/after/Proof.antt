@@ -1,5 +1,5 @@
 -- `pcm_gate::program::after` meets its contract. Assumes nothing.
-use Rattle.pcm_gate.proofs.Made.{gate-told}
+use Rattle.answer.proofs.Answers.{state-told}
 use borrow.Author.Needs.{needs}
 use Rattle.pcm_gate.proofs.program.after.Statement.{statement}
 use Rattle.pcm_gate.proofs.program.after.Tie as tie
@@ -8,7 +8,7 @@ set-typed-requires : tie.Need-set-typed-requires
 set-typed-requires c κs = search needs
 
 returns : tie.Need-returns
-returns c = gate-told _ (c .before .set-typed .result .answer) (c .before .set-typed .ensures)
+returns c = state-told _ (c .before .set-typed .result .answer) (c .before .set-typed .ensures)
 
 pub after-spec : {M : Type 1} → statement M
 after-spec = tie.close (tie.spec set-typed-requires returns)

@@ -2,7 +2,7 @@
 use lib.Ieee.{ofBits, neg}
 use Rattle.answer.specs.Figures.{f32}
 use Rattle.pcm_gate.specs.Program.{programGate}
-use Rattle.pcm_gate.proofs.Made.{gate-told}
+use Rattle.answer.proofs.Answers.{state-told}
 use borrow.Author.Needs.{needs}
 use Rattle.pcm_gate.proofs.program.program_gate.Statement.{statement}
 use Rattle.pcm_gate.proofs.program.program_gate.Tie as tie
@@ -34,7 +34,7 @@ returns c =
     let ratio = c .before .before .before .after2 .ensures in
     let threshold = c .before .before .before .before .after .ensures in
     let make = c .before .before .before .before .before .before .make in
-    let made = gate-told (make .result .gate) (make .result .answer) (make .ensures) in
+    let made = state-told (make .result .gate) (make .result .answer) (make .ensures) in
     rw (held, release, attack, ratio, threshold, made)
 
 pub program-gate-spec : {M : Type 1} → statement M

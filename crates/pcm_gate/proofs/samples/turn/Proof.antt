@@ -1,6 +1,6 @@
 -- `pcm_gate::samples::turn` meets its contract. Assumes nothing.
 use mathlib.Core.Path.{_∙_}
-use Rattle.gate_sample.specs.Step.{step}
+use Rattle.noise_gate_sample.specs.Step.{step}
 use Rattle.pcm_gate.specs.Pass.{next, output, aim}
 use borrow.Author.Needs.{needs}
 use Rattle.pcm_gate.proofs.samples.turn.Statement.{statement}

@@ -2,17 +2,17 @@
 use mathlib.Core.Path.{sym, _∙_}
 use borrow.Author.Tests.{not-true, not-false}
 use lib.Ieee.{ofBits}
-use Rattle.tonestack.specs.Calls.{read, readFound}
+use Rattle.tonestack.specs.Calls.{acceptable, read, readFound}
 use borrow.Author.Needs.{needs}
 use Rattle.tonestack.proofs.calls.read.Statement.{statement}
 use Rattle.tonestack.proofs.calls.read.Tie as tie
 
-acceptable-requires : tie.Need-acceptable-requires
-acceptable-requires c κs = search needs
+settable-requires : tie.Need-settable-requires
+settable-requires c κs = search needs
 
 returns : tie.Need-returns
-unfolding read
-returns c = rw (sym (c .before .acceptable .ensures) ∙ not-true _ (c .if1 .taken))
+unfolding acceptable read
+returns c = rw (sym (c .before .settable .ensures) ∙ not-true _ (c .if1 .taken))
 
 find-requires : tie.Need-find-requires
 find-requires c κs = search needs
@@ -24,28 +24,28 @@ enum-told : tie.Need-enum-told
 enum-told c = search needs
 
 returns-2 : tie.Need-returns-2
-unfolding read readFound ofBits
+unfolding acceptable read readFound ofBits
 returns-2 c =
     let found = c .before .before in
     let accepted = found .before in
-    rw (sym (accepted .before .acceptable .ensures) ∙ not-false _ (accepted .if1 .left), sym (found .find .ensures) ∙ c .enum-told .given .1)
+    rw (sym (accepted .before .settable .ensures) ∙ not-false _ (accepted .if1 .left), sym (found .find .ensures) ∙ c .enum-told .given .1)
 
 kept-requires : tie.Need-kept-requires
 kept-requires c κs = search needs
 
 returns-3 : tie.Need-returns-3
-unfolding read readFound ofBits
+unfolding acceptable read readFound ofBits
 returns-3 c =
-    let known = c .before .before .before in
+    let known = c .before .before in
     let found = known .before .before in
     let accepted = found .before in
-    rw (sym (accepted .before .acceptable .ensures) ∙ not-false _ (accepted .if1 .left), sym (found .find .ensures) ∙ known .v .given .1, c .kept .ensures)
+    rw (sym (accepted .before .settable .ensures) ∙ not-false _ (accepted .if1 .left), sym (found .find .ensures) ∙ known .v .given .1, c .kept .ensures)
 
 pub read-spec : {M : Type 1} → statement M
 read-spec =
     tie.close
     (tie.spec
-    acceptable-requires
+    settable-requires
     returns
     find-requires
     enum-known-v

@@ -2,26 +2,24 @@
 use mathlib.Core.Path.{sym, _∙_}
 use borrow.Author.Tests.{not-true, not-false}
 use lib.Ieee.{ofBits}
-use Rattle.tonestack.specs.Calls.{reset}
+use Rattle.tonestack.specs.Calls.{acceptable, reset}
 use borrow.Author.Needs.{needs}
 use Rattle.tonestack.proofs.calls.reset.Statement.{statement}
 use Rattle.tonestack.proofs.calls.reset.Tie as tie
 
-acceptable-requires : tie.Need-acceptable-requires
-acceptable-requires c κs = search needs
+settable-requires : tie.Need-settable-requires
+settable-requires c κs = search needs
 
 refused-requires : tie.Need-refused-requires
 refused-requires c κs = search needs
 
 returns : tie.Need-returns
-unfolding reset
-returns c = c .refused .ensures ∙ rw (sym (c .before .before .acceptable .ensures) ∙ not-true _ (c .before .if1 .taken))
+unfolding acceptable reset
+returns c = c .refused .ensures ∙ rw (sym (c .before .before .settable .ensures) ∙ not-true _ (c .before .if1 .taken))
 
 returns-2 : tie.Need-returns-2
-unfolding reset ofBits
-returns-2 c =
-    let accepted = c .before in
-    rw (sym (accepted .before .acceptable .ensures) ∙ not-false _ (accepted .if1 .left))
+unfolding acceptable reset ofBits
+returns-2 c = rw (sym (c .before .settable .ensures) ∙ not-false _ (c .if1 .left))
 
 pub reset-spec : {M : Type 1} → statement M
-reset-spec = tie.close (tie.spec acceptable-requires refused-requires returns returns-2)
+reset-spec = tie.close (tie.spec settable-requires refused-requires returns returns-2)

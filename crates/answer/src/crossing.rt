@@ -1,0 +1,49 @@
+// An answer in document 01's numbers, as it crosses to a host.
+use crate::Answer;
+use crate::Numbered;
+use crate::Reading;
+use crate::Refusal;
+use crate::number;
+use crate::place;
+ghost use mathlib.Core.Path.{_≡_};
+ghost use Rattle.answer.specs.Crossing as crossing;
+
+pub fn of_refusal(r: Refusal) -> Numbered
+    ensures { λ n. ⌜ n ≡ crossing.ofRefusal r ⌝ }
+{
+    Numbered {
+        number: number(r),
+        value: 0.0,
+        place: place(r),
+        count: 0,
+    }
+}
+
+pub fn of_done(count: usize, value: f32) -> Numbered
+    ensures { λ n. ⌜ n ≡ crossing.ofDone count value ⌝ }
+{
+    Numbered {
+        number: 0,
+        value: value,
+        place: 0,
+        count: count,
+    }
+}
+
+pub fn of_answer(a: Answer) -> Numbered
+    ensures { λ n. ⌜ n ≡ crossing.ofAnswer a ⌝ }
+{
+    match a {
+        Answer::Done => of_done(0, 0.0),
+        Answer::Refused(r) => of_refusal(r),
+    }
+}
+
+pub fn of_reading(a: Reading) -> Numbered
+    ensures { λ n. ⌜ n ≡ crossing.ofReading a ⌝ }
+{
+    match a {
+        Reading::Done(value) => of_done(0, value),
+        Reading::Refused(r) => of_refusal(r),
+    }
+}

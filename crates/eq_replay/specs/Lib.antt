@@ -1,2 +1,0 @@
--- The buffers of a run.
-pub mod Buffers

@@ -1,3 +1,0 @@
--- The settings of the equaliser: what a band may hold, and the bands' names.
-pub mod Bands
-pub mod Names

@@ -1,2 +1,0 @@
--- A lookup in a table.
-pub mod Lookup

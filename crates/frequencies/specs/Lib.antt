@@ -1,2 +1,0 @@
--- Document 01's frequencies.
-pub mod Tables

@@ -1,3 +1,0 @@
--- What a call tells, and what a refusal leaves.
-pub mod Answers
-pub mod Refusals

@@ -1,0 +1,2 @@
+-- What a name asks for, by its place.
+pub mod Places

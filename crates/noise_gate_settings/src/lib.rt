@@ -1,0 +1,49 @@
+// The noise gate's settings: what each may be, what it changes, and its name.
+mod names;
+mod ranges;
+
+use answer::Decibels;
+use answer::Factor;
+pub use names::find;
+pub use names::kept;
+pub use ranges::in_its_range;
+pub use ranges::settable;
+pub use ranges::with_setting;
+pub use ranges::worked;
+
+// A time in milliseconds, and its smoothing number.
+#[repr(C)]
+pub struct Timed {
+    pub ms: f32,
+    pub number: f32,
+}
+
+// What a host sets. `factor` is the threshold's, `hold` is in milliseconds; `rising` and `falling` are the
+// follower's smoothing numbers.
+#[repr(C)]
+pub struct Settings {
+    pub rate: f32,
+    pub threshold: Decibels,
+    pub factor: Factor,
+    pub ratio: f32,
+    pub attack: Timed,
+    pub release: Timed,
+    pub hold: f32,
+    pub rising: f32,
+    pub falling: f32,
+}
+
+// A setting: its value, and the worked number that it takes.
+pub enum Setting {
+    Threshold(Decibels, Factor),
+    Ratio(f32),
+    Attack(f32, f32),
+    Release(f32, f32),
+    Hold(f32),
+}
+
+// What a name and the numbers beside it ask for.
+pub enum Named {
+    Known(Setting),
+    Unknown,
+}

@@ -1,0 +1,96 @@
+// What a setting may be and what it changes.
+use crate::Setting;
+use crate::Settings;
+use crate::Timed;
+use answer::both;
+ghost use mathlib.Core.Path.{_≡_};
+ghost use Rattle.noise_gate_settings.specs.Ranges as Ranges;
+
+// The longest hold that can be set, in milliseconds.
+const LONGEST_HOLD: f32 = 500.0;
+
+const LOWEST_FACTOR: f32 = 1.0 / 16384.0;
+
+// Whether t's value is in its range.
+pub fn in_its_range(t: Setting) -> bool
+    ensures { λ r. ⌜ r ≡ Ranges.inItsRange t ⌝ }
+{
+    match t {
+        Setting::Threshold(d, _) => answer::in_range(-80.0, 0.0, d.0),
+        Setting::Ratio(r) => answer::in_range(1.0, 100.0, r),
+        Setting::Attack(t, _) => answer::in_range(0.1, 100.0, t),
+        Setting::Release(t, _) => answer::in_range(1.0, 1000.0, t),
+        Setting::Hold(t) => answer::in_range(0.0, LONGEST_HOLD, t),
+    }
+}
+
+// Whether the worked number that t takes is acceptable.
+pub fn worked(t: Setting) -> bool
+    ensures { λ r. ⌜ r ≡ Ranges.worked t ⌝ }
+{
+    match t {
+        Setting::Threshold(_, k) => answer::in_range(LOWEST_FACTOR, 1.0, k.0),
+        Setting::Ratio(_) => true,
+        Setting::Attack(_, c) => answer::is_smoothing(c),
+        Setting::Release(_, c) => answer::is_smoothing(c),
+        Setting::Hold(_) => true,
+    }
+}
+
+fn allowed(t: Setting) -> bool
+    ensures { λ r. ⌜ r ≡ Ranges.allowed t ⌝ }
+{
+    both(in_its_range(t), worked(t))
+}
+
+// The settings with t taken.
+pub fn with_setting(s: Settings, t: Setting) -> Settings
+    ensures { λ r. ⌜ r ≡ Ranges.withSetting s t ⌝ }
+{
+    let mut n = s;
+    match t {
+        Setting::Threshold(d, k) => {
+            n.threshold = d;
+            n.factor = k;
+        }
+        Setting::Ratio(r) => {
+            n.ratio = r;
+        }
+        Setting::Attack(t, c) => {
+            let attack = Timed { ms: t, number: c };
+            n.attack = attack;
+        }
+        Setting::Release(t, c) => {
+            let release = Timed { ms: t, number: c };
+            n.release = release;
+        }
+        Setting::Hold(t) => {
+            n.hold = t;
+        }
+    }
+    n
+}
+
+// Whether the settings, the rate and the worked numbers could have been set or made.
+pub fn settable(s: Settings) -> bool
+    ensures { λ r. ⌜ r ≡ Ranges.settable s ⌝ }
+{
+    let smoothing = both(
+        answer::is_smoothing(s.rising),
+        answer::is_smoothing(s.falling),
+    );
+    let hold = both(allowed(Setting::Hold(s.hold)), smoothing);
+    let release = both(
+        allowed(Setting::Release(s.release.ms, s.release.number)),
+        hold,
+    );
+    let attack = both(
+        allowed(Setting::Attack(s.attack.ms, s.attack.number)),
+        release,
+    );
+    let ratio = both(allowed(Setting::Ratio(s.ratio)), attack);
+    let d = s.threshold;
+    let k = s.factor;
+    let threshold = both(allowed(Setting::Threshold(d, k)), ratio);
+    both(answer::is_rate(s.rate), threshold)
+}

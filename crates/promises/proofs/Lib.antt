@@ -1,0 +1,9 @@
+-- The promises' proofs, a page a stage.
+mod Order
+pub mod Lone
+pub mod NoiseGate
+pub mod Program
+pub mod Clipper
+pub mod Equaliser
+pub mod ToneStack
+pub mod Saturator

@@ -1,0 +1,50 @@
+-- What the noise gate promises, in document 01's words; what silence means is a page of its own, the crate `silence`. Statements only.
+-- Assumes nothing.
+use mathlib.Core.Path.{_≡_}
+use mathlib.Core.List.{List, [], _∷_}
+use Prim.Native.Nat.{ℕ, _≤_}
+use lib.Dec.{T}
+use lib.Ieee.{Float}
+use Rattle.answer.specs.Told.{refused, told, toldRead, Unchanged}
+use Rattle.answer.specs.Blocks.{BlockUnchanged}
+use Rattle.answer.specs.declared.Answer.{Answer}
+use Rattle.answer.specs.declared.Reading.{Reading}
+use Rattle.answer.specs.declared.Refusal.the-variants.{BadState}
+use Rattle.noise_gate_sample.specs.Step.{holdSamples}
+use Rattle.noise_gate_settings.specs.declared.Setting.{Setting}
+use Rattle.noise_gate.specs.Figures.{longestCount}
+use Rattle.noise_gate.specs.Bounds.{acceptable}
+use Rattle.noise_gate.specs.Answers.{toldBlock}
+use Rattle.noise_gate.specs.Calls as calls
+use Rattle.noise_gate.specs.declared.Gate.{Gate}
+use Rattle.noise_gate.specs.declared.Passage.{Passage}
+use Rattle.silence.specs.History.{Call, carried, allF32, InF32, SettingsF32}
+
+-- "No refusal changes a state or an output buffer."
+pub record Refusals : Type 0 where
+  pub set-typed : (g : Gate) (t : Setting) → Unchanged g (calls.setTyped g t)
+  pub set : (g : Gate) (name : List ℕ) (v w : Float) → Unchanged g (calls.set g name v w)
+  pub read : (g : Gate) (name : List ℕ) → Unchanged g (calls.read g name)
+  pub reset : (g : Gate) → Unchanged g (calls.reset g)
+  pub block : (g : Gate) (xs out : List Float) → BlockUnchanged g out (calls.block g xs out)
+
+-- "A refused making gives a state whose numbers are all 0, the rate too, which 9 refuses ever after."
+pub record Unmade : Type 0 where
+  pub make : (rate rising falling : Float) → Unchanged calls.unmade (calls.make rate rising falling)
+  pub set-typed : (t : Setting) → calls.setTyped calls.unmade t ≡ refused calls.unmade BadState
+  pub set : (name : List ℕ) (v w : Float) → calls.set calls.unmade name v w ≡ refused calls.unmade BadState
+  pub read : (name : List ℕ) → calls.read calls.unmade name ≡ refused calls.unmade BadState
+  pub reset : calls.reset calls.unmade ≡ refused calls.unmade BadState
+  pub block : (xs out : List Float) → calls.block calls.unmade xs out ≡ (refused calls.unmade BadState, out)
+
+-- 9 refuses no gate that could have been set or made: a gate whose making was done is accepted after any calls. And H of a gate that it accepts is at most the counter's bound
+pub record Accepted : Type 0 where
+  pub carried-on : (rate rising falling : Float) → T (allF32 (rate ∷ rising ∷ falling ∷ [])) → calls.make rate rising falling .number ≡ 0
+      → (cs : List Call) → InF32 cs → T (acceptable (carried (calls.make rate rising falling .state) cs))
+  pub hold-samples : (g : Gate) → T (acceptable g) → SettingsF32 (g .settings) → holdSamples (g .settings) ≤ longestCount
+
+-- no two answers tell the same: what a call tells gives its gate and its answer back
+pub record Answers : Type 0 where
+  pub answer : (g h : Gate) (a b : Answer) → told g a ≡ told h b → (g ≡ h) × (a ≡ b)
+  pub reading : (g h : Gate) (a b : Reading) → toldRead g a ≡ toldRead h b → (g ≡ h) × (a ≡ b)
+  pub passage : (g h : Gate) (a b : Passage) → toldBlock g a ≡ toldBlock h b → (g ≡ h) × (a ≡ b)

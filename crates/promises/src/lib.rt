@@ -1,0 +1,1 @@
+// What holds of every stage, a page each: statements and their proofs; no function.

@@ -1,2 +1,0 @@
--- Floats in bytes, as stored lists of calls have them.
-pub mod Samples

@@ -1,3 +1,0 @@
--- The settings of the multiband saturator: what they may be, and their names.
-pub mod Ranges
-pub mod Names

@@ -1,3 +1,0 @@
--- The models' numbers; what a clamp and a setting leave.
-pub mod Numbers
-pub mod Clamped

@@ -1,0 +1,20 @@
+//! The stages that have lists, by name. The lists of `program` are those of `crates/gate`; the others' are
+//! `oracle/lists/NAME.calls`.
+use crate::{
+    clipper::Clipper, common::Common, eq::Eq, float::Float, gate::NoiseGate, program::Program,
+    replay::Replay, saturator::MultibandSaturator, tonestack::ToneStack,
+};
+
+pub fn named(name: &str) -> Option<&'static dyn Replay> {
+    match name {
+        "float" => Some(&Float),
+        "common" => Some(&Common),
+        "clipper" => Some(&Clipper),
+        "noise_gate" => Some(&NoiseGate::NEW),
+        "eq" => Some(&Eq::NEW),
+        "tonestack" => Some(&ToneStack::NEW),
+        "multiband_saturator" => Some(&MultibandSaturator::NEW),
+        "program" => Some(&Program),
+        _ => None,
+    }
+}
