@@ -3,7 +3,7 @@
 use mathlib.Core.Path.{_≡_, refl, ap}
 use mathlib.Core.Bool.{Bool, true, false}
 use mathlib.Core.List.{List, [], _∷_, _++_}
-use Prim.Native.Nat.{ℕ, zero, suc, _+_, _<_}
+use Prim.Native.Nat.{ℕ, zero, suc, _+_, _≤_, _<_, zero-le}
 use native.Mathlib.Nat.{le-of-suc-le-suc, not-suc-le-zero}
 use native.Mathlib.Omega.{arith}
 use lib.ListN.{length, take, getD}
@@ -42,3 +42,13 @@ module _ {S X : Type 0} (next : S → X → S) where
         more-plus : (b : Bool) (n m : ℕ) → more b (n + m) ≡ more b n + m
         more-plus true n m = omega arith
         more-plus false n m = refl
+
+    -- at most every sample is counted
+    pub count-most : (s : S) (xs : List X) → countAfter next test s xs ≤ length xs
+    unfolding countAfter
+    count-most s [] = zero-le
+    count-most s (x ∷ xs) = more-most (test s x) (countAfter next test (next s x) xs) (length xs) (count-most (next s x) xs)
+      where
+        more-most : (b : Bool) (n m : ℕ) → n ≤ m → more b n ≤ suc m
+        more-most true n m h = omega arith
+        more-most false n m h = omega arith

@@ -3,7 +3,7 @@
 use mathlib.Core.Path.{_≡_, refl, sym, ap, _∙_, subst}
 use mathlib.Core.Logic.{inl, inr}
 use Prim.Native.Nat.{ℕ, zero, suc, _+_, _-_, _*_, _^_, _≤_, _<_, zero-le}
-use native.Mathlib.Nat.{le-trans, le-of-eq, eq-or-lt-of-le, lt-of-lt-of-le, lt-of-le-of-lt, sub-le, zero-mul, one-mul, mul-one, mul-comm, mul-le-mul-right, mul-le-mul-left}
+use native.Mathlib.Nat.{le-refl, le-trans, le-of-eq, le-antisymm, eq-or-lt-of-le, lt-of-lt-of-le, lt-of-le-of-lt, sub-le, zero-mul, one-mul, mul-one, mul-comm, mul-le-mul-right, mul-le-mul-left}
 use native.Mathlib.Omega.{arith}
 use mathlib.Core.Bool.{true, false}
 use lib.IntN.{ℤ, pos, negsuc}
@@ -17,7 +17,7 @@ use Rattle.rounding.proofs.Towards.{D, D-rep, closes, closes-strictly, 
 use Rattle.rounding.proofs.Units.{gap, U, U-is, prec-pos, Size, held}
 use Rattle.rounding.specs.Fma.{fma}
 use Rattle.rounding.specs.Casts.{absolute}
-use Rattle.rounding.proofs.Sizes.{plus, le-i, or-l, no-size, At, le-of-sizes, lt-of-sizes, sizes-of-le, sizes-of-lt, mul-size, mul-at, fma-at, sub-at, div-at, fma-fits}
+use Rattle.rounding.proofs.Sizes.{plus, le-i, or-l, no-size, At, le-of-sizes, lt-of-sizes, sizes-of-le, sizes-of-lt, mul-size, mul-at, fma-at, sub-at, div-at, fma-fits, at-unique}
 
 -- ---- closed facts of the formats
 top : (f : Format) → snap (prec f) (2 ^ 0 * (2 ^ (prec f + gap f) * 2 + 2 ^ gap f)) 2 ≡ 2 ^ 0 * 2 ^ (prec f + gap f)
@@ -231,6 +231,16 @@ one-fits binary64 = tt
 pub one-in : (f : Format) → In f one one
 unfolding le
 one-in f = record { fit = one-fits f; above = tt; below = tt }
+
+abbrev one-sized : (f : Format) → Sized f one (U f)
+one-sized f = record { at = U f; rep = rep-pow (prec f) (prec f + gap f) (prec-pos f); fine = unit-fine f (U f) (unit-le f (U f) (le-refl (U f))); most = le-refl (U f); is = one-at f }
+
+pub stays-at-one : (f : Format) (c : Float) → In f one c → fma f c one (mul f (sub f one c) one) ≡ one
+stays-at-one f c ic =
+    let cs = sized f c one (U f) ic (one-at f) in
+    let n = snap (prec f) (cs .at * U f + rest f (cs .at) * U f) (U f) in
+    let e : n ≡ U f = le-antisymm (opens-le f (cs .at) (U f) (cs .most) (le-refl (U f))) (stays-open (prec f) (gap f) (prec-pos f) (bottom f) (cs .at) (cs .most)) in
+    at-unique f (fma f c one (mul f (sub f one c) one)) one (U f) (fma-fits f c one (mul f (sub f one c) one)) (one-fits f) (rw e at (opening-at f c one ic (one-in f) cs (one-sized f))) (one-at f) (pow-pos (prec f + gap f))
 
 -- ---- g = 1 / ratio, and the gain (1 - g) * s + g
 mixes-le : (f : Format) (c s : ℕ) → c ≤ U f → s ≤ U f → snap (prec f) (rest f c * s + c * U f) (U f) ≤ U f
