@@ -1,20 +1,38 @@
 /* hoofglaze: what libhoofglaze.a offers a C, C++ or Rust host on x86-64 Linux.
  *
  * Every call takes any numbers at all, and any bits in a state. A pointer must be good for the length
- * beside it, and not null where that is 0; the buffers of one call, its name and its gate must not
- * overlap. Lengths count samples, and bytes for a name, which needs no 0 at its end. The float
- * environment must be the default one, as a program starts with it: a thread that rounds another way, or
- * has subnormals flushed to zero, gets other bits. The library keeps nothing from call to call and
- * allocates nothing: threads may call it at once, each with states and buffers of its own. */
+ * beside it; where that is 0 it is never read or written and may be null, as an empty vector's. The
+ * buffers of one call, its name and its gate must not overlap. Lengths count samples, and bytes for a
+ * name, which needs no 0 at its end. The float environment must be the default one, as a program starts
+ * with it: a thread that rounds another way, or has subnormals flushed to zero, gets other bits. The
+ * library keeps nothing from call to call and allocates nothing: threads may call it at once, each with
+ * states and buffers of its own. */
 #ifndef HOOFGLAZE_H
 #define HOOFGLAZE_H
 
 #include <stddef.h>
 #include <stdint.h>
 
+/* Grows by one with each release that a host can tell from the one before; docs/RELEASES.md says how. */
+#define HOOFGLAZE_VERSION 1
+
 #ifdef __cplusplus
 extern "C" {
 #endif
+
+/* ---- Stack
+ *
+ * How many bytes of stack a call takes at most, its arguments with it; its result lies where the caller has
+ * it. What the dynamic linker takes while it binds memcpy, memmove and memset, each at its first call, is not
+ * counted: it takes nothing where a program is linked with -z now. */
+enum {
+    HOOFGLAZE_STACK_FLOAT = 256, /* float arithmetic, follower and DC blocker */
+    HOOFGLAZE_STACK_GATE = 768,
+    HOOFGLAZE_STACK_CLIP = 1280,
+    HOOFGLAZE_STACK_EQ = 6144,
+    HOOFGLAZE_STACK_TONE = 512,
+    HOOFGLAZE_STACK_SATURATOR = 2304
+};
 
 /* ---- Float arithmetic (IEEE 754)
  *
@@ -69,9 +87,14 @@ double hoofglaze_from_bits64(uint64_t n);
  * Where a call's comment has numbers in a row, as 9, 1, 3, 4, it is tested for these refusals in this
  * order and the first that holds is its answer; it is refused by no other.
  *
- * No refusal changes a state or an output buffer, not a bit of it. Every NaN that a call returns or a
- * sample's step writes, registers too, is the quiet NaN 7FC00000 (double: 7FF8000000000000). A host may
- * keep a state's numbers and hand them back. */
+ * No refusal changes a state or an output buffer, not a bit of it. Every NaN that a call works out, reads
+ * or takes is the quiet NaN 7FC00000 (double: 7FF8000000000000): each value, each sample of an output, each
+ * register that a sample's step writes. What a call leaves as it was it hands back bit for bit, a host's
+ * odd NaN too: a refusal the whole state, a setting every register and number that it doesn't change, reset
+ * the settings, an empty block all of it. A host may keep a state's numbers and hand them back.
+ *
+ * A signal may be cut into blocks anywhere: where every block is done, its outputs, the last state and the
+ * sum of the counts are the same, in every stage. */
 typedef struct {
     uint32_t number; /* 0 done, or what it is refused by */
     float value;     /* what a call read or stepped to; +0 where it does neither, or was refused */
@@ -82,11 +105,21 @@ typedef struct {
 /* ---- Worked numbers
  *
  * What the Rust works out with sin, exp and powf, a host gives beside the value that its user set. They
- * are checked for their range only, not against that value. The Rust takes, for a time in ms, the
- * smoothing number exp(-1 / (rate * 0.001 * ms)); for a DC blocker's corner in Hz, exp(-2 pi * corner /
- * rate); for a threshold in dB, the factor 10^(dB / 20); for a presence, 10^((presence - 1) * 6 / 20). A
- * band's five are the Audio EQ Cookbook's peaking filter of 10/16 octave, a saturator's frequency has its
- * low-pass and high-pass of Q = 1/sqrt(2), each divided by a0. */
+ * are checked for their range only, not against that value. The Rust takes
+ *
+ *   for a time in ms, the smoothing number exp(-1 / (rate * 0.001 * ms)); a gate's follower has 0.1 ms
+ *   (rising) and 10 ms (falling), a saturator's three followers have 1 ms (attack) and 50 ms (release);
+ *   for a DC blocker's corner in Hz, exp(-2 pi * corner / rate); a saturator's three have 15 Hz;
+ *   for a threshold in dB, the factor 10^(dB / 20);
+ *   for a presence, the factor 10^((presence - 1) * 6 / 20);
+ *   for a band of an equaliser, the Audio EQ Cookbook's peaking filter of 10/16 octave, in double: f is
+ *   the band's centre, held to at most 0.499 * rate; w = 2 pi * f / rate; A = 10^(dB / 40); alpha =
+ *   sin(w) * sinh(ln(2)/2 * 10/16 * w / sin(w)); a0 = 1 + alpha/A; b0 = (1 + alpha*A) / a0, b1 =
+ *   -2 cos(w) / a0, b2 = (1 - alpha*A) / a0, a1 = -2 cos(w) / a0, a2 = (1 - alpha/A) / a0;
+ *   for a frequency f of a saturator, two filters of Q = 1/sqrt(2): w = 2 pi * f / rate; alpha =
+ *   sin(w) / (2 Q); a0 = 1 + alpha; a1 = -2 cos(w) / a0, a2 = (1 - alpha) / a0 for both; low-pass b0 = b2
+ *   = (1 - cos(w)) / 2 / a0, b1 = (1 - cos(w)) / a0; high-pass b0 = b2 = (1 + cos(w)) / 2 / a0, b1 =
+ *   -(1 + cos(w)) / a0. */
 
 /* ---- Follower and DC blocker, one sample at a time
  *
@@ -199,12 +232,12 @@ hoofglaze_answer hoofglaze_gate_read(hoofglaze_gate g, const uint8_t *name, size
 hoofglaze_gate_answered hoofglaze_gate_reset(hoofglaze_gate g);
 
 /* A block of samples from one buffer into another of the same length, at most 4,096: 9, 7, 8, 6. An empty
- * block is done. The count is that of the samples at which the gate aimed open. However a signal is cut
- * into blocks, its outputs, the last state and the sum of the counts are the same. */
+ * block is done. The count is that of the samples at which the gate aimed open. */
 hoofglaze_gate_answered hoofglaze_gate_block(hoofglaze_gate g, const float *input, size_t samples,
                                              float *output, size_t places);
 
-/* The same on the host's own gate, changed where it lies. */
+/* The same on the host's own gate, changed where it lies: its settings and its registers are written, and
+ * no other byte; the four between them stay. In a gate that is given back by value they are any. */
 hoofglaze_answer hoofglaze_gate_set_in_place(hoofglaze_gate *g, const uint8_t *name, size_t bytes,
                                              float value, float worked);
 hoofglaze_answer hoofglaze_gate_reset_in_place(hoofglaze_gate *g);

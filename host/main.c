@@ -11,6 +11,10 @@ void eq_checks(void);
 void tonestack_checks(void);
 void saturator_checks(void);
 void layout_checks(void);
+void padding_checks(void);
+void empty_checks(void);
+void path_checks(void);
+void stack_checks(void);
 void mission_checks(const char *recording);
 
 int main(int count, char **words)
@@ -23,6 +27,10 @@ int main(int count, char **words)
     tonestack_checks();
     saturator_checks();
     layout_checks();
+    padding_checks();
+    empty_checks();
+    path_checks();
+    stack_checks();
     mission_checks(count > 1 ? words[1] : "");
     return !all_passed();
 }

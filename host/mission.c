@@ -9,11 +9,11 @@
 
 enum { RATE = 48000, MOST = 8 * RATE, SPANS = 8, BLOCK = 4096 };
 
-/* Where "not" ends and "comfortable" begins: the recording is silent in between. */
-enum { NOT = RATE * 25 / 100, COMFORTABLE = RATE * 29 / 100 };
+/* Where "not" ends, and where "comfortable" begins and ends: the recording is silent in between and after. */
+enum { NOT = RATE * 25 / 100, COMFORTABLE = RATE * 29 / 100, END = RATE * 95 / 100 };
 
 static uint8_t bytes[2 * MOST];
-static float recording[MOST], level[MOST];
+static float recording[MOST], level[MOST], output[MOST];
 static int samples;
 
 /* Signed 16-bit little-endian samples at 48,000 Hz, each n/32768. */
@@ -57,26 +57,26 @@ struct span {
 
 struct passage {
     struct span spans[SPANS];
-    int count, open, open_in_not;
+    int count, open, open_in_not, open_in_comfortable;
 };
 
 static void add(struct passage *p, int i)
 {
     p->open++;
     p->open_in_not += i < NOT;
+    p->open_in_comfortable += i >= COMFORTABLE && i < END;
     if (p->count > 0 && p->spans[p->count - 1].to == i)
         p->spans[p->count - 1].to++;
     else if (p->count < SPANS)
         p->spans[p->count++] = (struct span){i, i + 1};
 }
 
-/* As the library counts, a sample a block; the level after each is kept. */
+/* As the library counts, a sample a block; the level after each and the output are kept. */
 static struct passage passed(hoofglaze_gate g)
 {
     struct passage p = {.count = 0};
-    float output;
     for (int i = 0; i < samples; i++) {
-        hoofglaze_answer a = hoofglaze_gate_block_in_place(&g, &recording[i], 1, &output, 1);
+        hoofglaze_answer a = hoofglaze_gate_block_in_place(&g, &recording[i], 1, &output[i], 1);
         check("a block of one sample is done", a.number, 0, i, 0, 0);
         level[i] = g.registers.level;
         if (a.count == 1)
@@ -103,25 +103,27 @@ static struct passage expected(const hoofglaze_gate_settings *s)
     return p;
 }
 
-/* The open count of whole blocks. */
-static int open_count(hoofglaze_gate g)
+/* The open count of whole blocks, each sample times the factor. */
+static int open_count(hoofglaze_gate *g, float factor, int from, int to)
 {
-    static float output[BLOCK];
+    static float in[BLOCK], out[BLOCK];
     size_t open = 0;
-    for (int i = 0; i < samples; i += BLOCK) {
-        size_t n = samples - i < BLOCK ? samples - i : BLOCK;
-        open += hoofglaze_gate_block_in_place(&g, recording + i, n, output, n).count;
+    for (int i = from; i < to; i += BLOCK) {
+        int n = to - i < BLOCK ? to - i : BLOCK;
+        for (int k = 0; k < n; k++)
+            in[k] = recording[i + k] * factor;
+        open += hoofglaze_gate_block_in_place(g, in, n, out, n).count;
     }
     return (int)open;
 }
 
 static struct passage told(float decibels)
 {
-    hoofglaze_gate g = gate_at(decibels);
+    hoofglaze_gate g = gate_at(decibels), again = g;
     struct passage p = passed(g), said = expected(&g.settings);
     check("spans", p.count, said.count, 0, 0, 0);
     check("samples aimed open", p.open, said.open, 0, 0, 0);
-    check("open count of blocks", open_count(g), said.open, 0, 0, 0);
+    check("open count of blocks", open_count(&again, 1, 0, samples), said.open, 0, 0, 0);
     printf("  threshold %.0f dB (factor %.4f): meant to pass", decibels, g.settings.factor.factor);
     for (int i = 0; i < p.count; i++) {
         struct span s = p.spans[i];
@@ -133,6 +135,8 @@ static struct passage told(float decibels)
     return p;
 }
 
+/* ---- how loud the words are, and how loud they come out */
+
 static float loudest(const float *x, int from, int to)
 {
     float most = 0;
@@ -141,19 +145,79 @@ static float loudest(const float *x, int from, int to)
     return most;
 }
 
+static double decibels(double factor)
+{
+    return 20 * log10(factor);
+}
+
+/* The root of the mean square of a word's outputs over that of its samples, in dB. */
+static double left(int from, int to)
+{
+    double in = 0, out = 0;
+    for (int i = from; i < to; i++) {
+        in += (double)recording[i] * recording[i];
+        out += (double)output[i] * output[i];
+    }
+    return decibels(sqrt(out / in));
+}
+
+static void rounded(const char *what, double given, int expected)
+{
+    check(what, (int)(given + 0.5), expected, 0, 0, 0);
+}
+
+/* Whether a gate at the threshold opens in a word of the recording made louder. */
+static int opens(float threshold, double louder, int from, int to)
+{
+    hoofglaze_gate g = gate_at(threshold);
+    float factor = (float)pow(10, louder / 20);
+    open_count(&g, factor, 0, from);
+    return open_count(&g, factor, from, to) > 0;
+}
+
+/* How loud the recording may be, in dB above what it is, for a gate that opens at "comfortable" and not at
+ * "not": seen by runs a little to each side of both ends. */
+static void window(float threshold, float quiet, float loud)
+{
+    double from = threshold - decibels(loud), to = threshold - decibels(quiet), little = 0.02;
+    check("below the window", opens(threshold, from - little, COMFORTABLE, END), 0, 0, 0, 0);
+    check("its lower end", opens(threshold, from + little, COMFORTABLE, END), 1, 0, 0, 0);
+    check("its upper end", opens(threshold, to - little, 0, NOT), 0, 0, 0, 0);
+    check("above the window", opens(threshold, to + little, 0, NOT), 1, 0, 0, 0);
+    rounded("the window, in tenths of a dB", 10 * (to - from), 22);
+    printf("  so it is with the recording %.1f dB quieter to %.1f dB louder: a window of %.1f dB\n", -from, to,
+           to - from);
+}
+
+/* What is left of each word by the gate that ran last. */
+static void told_words(const struct passage *p)
+{
+    double first = left(0, NOT), second = left(COMFORTABLE, END);
+    double open = 100.0 * p->open_in_comfortable / (END - COMFORTABLE);
+    rounded("\"not\" out over in, in tenths of a dB below 0", -10 * first, 200);
+    rounded("\"comfortable\" out over in, in tenths of a dB below 0", -10 * second, 43);
+    rounded("percent of \"comfortable\" aimed open", open, 11);
+    printf("  \"not\" leaves the gate at %.1f dB, \"comfortable\" at %.1f dB (root mean square, out over in),\n"
+           "  aimed open at %d of its %d samples, %.0f %%\n",
+           first, second, p->open_in_comfortable, END - COMFORTABLE, open);
+}
+
 void mission_checks(const char *path)
 {
     group("mission: a quiet \"not\" before a loud \"comfortable\"");
     read_recording(path);
     struct passage heard = told(-40), missed = told(-12);
-    float quiet = loudest(level, 0, NOT), loud = loudest(level, COMFORTABLE, samples);
+    float quiet = loudest(level, 0, NOT), loud = loudest(level, COMFORTABLE, END);
     check("silence between the words", bytes32(loudest(recording, NOT, COMFORTABLE)), 0, 0, 0, 0);
+    check("silence after them", bytes32(loudest(recording, END, samples)), 0, 0, 0, 0);
     check("level of \"not\"", quiet > 0.01f && quiet < 0.25f, 1, bytes32(quiet), 0, 0);
     check("level of \"comfortable\"", loud > 0.26f, 1, bytes32(loud), 0, 0);
     check("all of \"not\" passes", heard.spans[0].from < RATE / 100 && heard.spans[0].to > NOT, 1, 0, 0, 0);
     check("none of \"not\" passes", missed.open_in_not, 0, 0, 0, 0);
     check("\"comfortable\" passes", missed.open > 0, 1, 0, 0, 0);
     printf("  the level rises to %.1f dB in \"not\" and to %.1f dB in \"comfortable\":\n"
-           "  a threshold between them loses the whole of the first word, and not of the second\n",
-           20 * log10(quiet), 20 * log10(loud));
+           "  a threshold between them aims open at no sample of the first word, and at some of the second\n",
+           decibels(quiet), decibels(loud));
+    told_words(&missed);
+    window(-12, quiet, loud);
 }

@@ -1,4 +1,22 @@
 /* What C's <signal.h> has that this project uses, for a compiler that comes without C's headers. */
+#define SIGTRAP 5
 #define SIGPIPE 13
+#define SIG_DFL ((void (*)(int))0)
 #define SIG_IGN ((void (*)(int))1)
 void (*signal(int number, void (*handler)(int)))(int);
+
+/* As the C library on x86-64 Linux lays them out. */
+#define SA_ONSTACK 0x08000000
+struct sigaction {
+    void (*sa_handler)(int);
+    unsigned long sa_mask[16];
+    int sa_flags;
+    void (*sa_restorer)(void);
+};
+typedef struct {
+    void *ss_sp;
+    int ss_flags;
+    __SIZE_TYPE__ ss_size;
+} stack_t;
+int sigaction(int number, const struct sigaction *now, struct sigaction *before);
+int sigaltstack(const stack_t *now, stack_t *before);

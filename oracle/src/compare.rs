@@ -4,7 +4,7 @@ use crate::{
     replay::{Counts, Replay},
 };
 use std::{
-    io::{Read, Write},
+    io::{ErrorKind, Read, Write},
     process::{Command, Stdio},
     thread,
 };
@@ -27,7 +27,7 @@ pub fn compare(
     while left > 0 {
         let part = left.min(PART);
         let calls = stage.generated(&mut random, part);
-        compare_list(stage, &calls, program)?;
+        hold(stage, &calls, program)?;
         for (kind, count) in stage.counts(&calls) {
             *counts.entry(kind).or_default() += count;
         }
@@ -36,13 +36,15 @@ pub fn compare(
     Ok(counts)
 }
 
-fn compare_list(stage: &dyn Replay, calls: &[u8], program: &[String]) -> Result<(), String> {
+/// Hands `program` a list, and says what differs first: of its answers, or of what it says on standard
+/// error.
+pub fn hold(stage: &dyn Replay, calls: &[u8], program: &[String]) -> Result<(), String> {
     let (port, rust) = thread::scope(|scope| {
         let port = scope.spawn(|| run(program, calls));
         let rust = stage.answers(calls);
         (port.join().expect("the thread ends"), rust)
     });
-    let (port, rust) = (port.map_err(|error| error.to_string())?, rust?);
+    let (Ran { output: port, said }, rust) = (port.map_err(|error| error.to_string())?, rust?);
     let differs = port.iter().zip(&rust).position(|(a, b)| a != b);
     match differs {
         Some(at) => Err(told(stage, calls, at, &port, &rust)),
@@ -51,7 +53,12 @@ fn compare_list(stage: &dyn Replay, calls: &[u8], program: &[String]) -> Result<
             port.len(),
             rust.len()
         )),
-        None => Ok(()),
+        None => match stage.said(calls) {
+            Some(rust) if rust != said => {
+                Err(format!("the program says {said:?}, the oracle {rust:?}"))
+            }
+            _ => Ok(()),
+        },
     }
 }
 
@@ -65,27 +72,41 @@ fn told(stage: &dyn Replay, calls: &[u8], at: usize, port: &[u8], rust: &[u8]) -
     )
 }
 
-/// What the program writes when it reads `input`.
-fn run(program: &[String], input: &[u8]) -> std::io::Result<Vec<u8>> {
+/// What a program writes to standard output and says on standard error.
+struct Ran {
+    output: Vec<u8>,
+    said: String,
+}
+
+/// What the program writes and says when it reads `input`.
+fn run(program: &[String], input: &[u8]) -> std::io::Result<Ran> {
     let mut child = Command::new(&program[0])
         .args(&program[1..])
         .stdin(Stdio::piped())
         .stdout(Stdio::piped())
+        .stderr(Stdio::piped())
         .spawn()?;
     let mut stdin = child.stdin.take().expect("a pipe");
     let mut stdout = child.stdout.take().expect("a pipe");
-    let mut output = Vec::new();
+    let mut stderr = child.stderr.take().expect("a pipe");
+    let (mut output, mut said) = (Vec::new(), String::new());
     thread::scope(|scope| {
         let writer = scope.spawn(move || stdin.write_all(input));
+        let listener = scope.spawn(|| stderr.read_to_string(&mut said));
         stdout.read_to_end(&mut output)?;
-        writer.join().expect("the thread ends")
+        listener.join().expect("the thread ends")?;
+        match writer.join().expect("the thread ends") {
+            // A program that stops reading has written too little.
+            Err(error) if error.kind() == ErrorKind::BrokenPipe => Ok(()),
+            written => written,
+        }
     })?;
     let status = child.wait()?;
     if status.success() {
-        Ok(output)
+        Ok(Ran { output, said })
     } else {
         Err(std::io::Error::other(format!(
-            "the program ended with {status}"
+            "the program ended with {status}: {said}"
         )))
     }
 }

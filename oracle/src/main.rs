@@ -1,5 +1,10 @@
 //! The oracle's commands. Lists and answers are the bytes that a replay reads and writes.
-use oracle::{compare::compare, random::Random, replay::Replay, stages};
+use oracle::{
+    compare::{compare, hold},
+    random::Random,
+    replay::Replay,
+    stages,
+};
 use std::{
     io::{self, Read, Write},
     process::ExitCode,
@@ -10,7 +15,8 @@ const USAGE: &str = "\
 oracle make STAGE                          writes the list that is stored
 oracle answer STAGE                        reads a list and writes the answers
 oracle generate STAGE SEED CASES           writes a new list, of CASES of each kind
-oracle compare STAGE SEED CASES PROGRAM..  compares a replay on new lists";
+oracle hold STAGE PROGRAM..                reads a list and compares a program on it
+oracle compare STAGE SEED CASES PROGRAM..  compares a program on new lists";
 
 fn main() -> ExitCode {
     let words: Vec<String> = std::env::args().skip(1).collect();
@@ -32,6 +38,9 @@ fn run(words: &[String]) -> Result<(), String> {
             let mut random = Random::new(number(seed)?);
             write(&named(stage)?.generated(&mut random, number(cases)?))
         }
+        ["hold", stage, ref program @ ..] if !program.is_empty() => {
+            hold(named(stage)?, &list()?, &owned(program))
+        }
         ["compare", stage, seed, cases, ref program @ ..] if !program.is_empty() => {
             report(stage, number(seed)?, number(cases)?, program)
         }
@@ -41,15 +50,18 @@ fn run(words: &[String]) -> Result<(), String> {
 
 fn report(stage: &str, seed: u64, cases: u64, program: &[&str]) -> Result<(), String> {
     let began = Instant::now();
-    let program: Vec<String> = program.iter().map(|&word| word.into()).collect();
     println!("{stage}: seed {seed}");
-    let counts = compare(named(stage)?, seed, cases, &program)?;
+    let counts = compare(named(stage)?, seed, cases, &owned(program))?;
     for (kind, count) in &counts {
         println!("{count:>12} {kind}");
     }
     let seconds = began.elapsed().as_secs();
     println!("{stage}: none differs ({seconds} s)");
     Ok(())
+}
+
+fn owned(words: &[&str]) -> Vec<String> {
+    words.iter().map(|&word| word.into()).collect()
 }
 
 fn named(stage: &str) -> Result<&'static dyn Replay, String> {

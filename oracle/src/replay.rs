@@ -18,6 +18,11 @@ pub trait Replay: Sync {
 
     /// The call whose answer holds this byte, in words.
     fn told(&self, calls: &[u8], answer_byte: usize) -> String;
+
+    /// What a program says of a list on standard error, where it is to say something.
+    fn said(&self, _calls: &[u8]) -> Option<String> {
+        None
+    }
 }
 
 pub type Counts = BTreeMap<&'static str, u64>;

@@ -5,6 +5,7 @@ use crate::Reading;
 use crate::Refusal;
 use crate::number;
 use crate::place;
+use float::settled32;
 ghost use mathlib.Core.Path.{_≡_};
 ghost use Rattle.answer.specs.Crossing as crossing;
 
@@ -24,7 +25,7 @@ pub fn of_done(count: usize, value: f32) -> Numbered
 {
     Numbered {
         number: 0,
-        value: value,
+        value: settled32(value),
         place: 0,
         count: count,
     }

@@ -5,6 +5,7 @@ pub use crossing::of_answer;
 pub use crossing::of_done;
 pub use crossing::of_reading;
 pub use crossing::of_refusal;
+pub use float::settled32;
 ghost use mathlib.Core.Bool.{_&&_};
 ghost use mathlib.Core.Path.{_≡_};
 ghost use lib.Dec.{eqb, leb};
@@ -13,18 +14,19 @@ ghost use Rattle.answer.specs.Checks as checks;
 ghost use Rattle.answer.specs.Names as names;
 ghost use Rattle.answer.specs.Refusals as refusals;
 
-// Document 01's answers 1 to 9.
+// Document 01's answers 1 to 9. The one that carries something stands last, out of their order: so a compiled
+// `number` is a table, which is looked up only where there is a refusal, and no branch hangs on one that isn't.
 pub enum Refusal {
     NoSetting,
     NoBand,
     OutOfRange,
     BadWorkedNumber,
     BadRate,
-    // The place of the first sample that is refused.
-    BadSample(usize),
     LengthsDiffer,
     TooLong,
     BadState,
+    // The place of the first sample that is refused.
+    BadSample(usize),
 }
 
 #[repr(C)]

@@ -155,7 +155,8 @@ fn of_patterns(a: u64, b: u64, c: u64) -> f64
     total(s, SIGN <= c, w.uh, w.ul, w.vh, w.vl, w.e)
 }
 
-// a * b + c by whole numbers, where none of the three is a NaN.
+// a * b + c: by whole numbers where all three are finite, else what the infinity or NaN among them
+// gives.
 pub fn whole(a: f64, b: f64, c: f64) -> f64
     ensures { λ r. ⌜ r ≡ fma binary64 a b c ⌝ }
 {

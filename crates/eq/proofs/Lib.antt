@@ -2,3 +2,4 @@
 pub mod Each
 pub mod Ran
 pub mod OneBand
+pub mod Parts

@@ -11,9 +11,11 @@ use answer::Refusal;
 use eq_bands::Index;
 use eq_bands::Numbers;
 use eq_bands::Setting;
+ghost use mathlib.Core.Bool.{true};
 ghost use mathlib.Core.Path.{_≡_};
 ghost use Rattle.answer.specs.Told.{told, toldRead, refused as refusedBy, done as doneIn};
 ghost use Rattle.eq.specs.Calls as Calls;
+ghost use Rattle.eq.specs.States as States;
 
 const BANDS: usize = 16;
 
@@ -45,13 +47,11 @@ pub fn make(rate: f32) -> Answered
     done(states::flat(rate, 1.0))
 }
 
-// A typed setting: 9, 2, 3, 4.
-pub fn set_band(e: Equaliser, i: usize, value: Decibels, numbers: Numbers) -> Answered
+// A setting of an equaliser that 9 lets through: 2, 3, 4.
+fn put(e: Equaliser, i: usize, value: Decibels, numbers: Numbers) -> Answered
+    requires { ⌜ States.acceptable e ≡ true ⌝ }
     ensures { λ r. ⌜ told (r .equaliser) (r .answer) ≡ Calls.setBand e i value numbers ⌝ }
 {
-    if !states::acceptable(e) {
-        return refused(e, Refusal::BadState);
-    }
     if BANDS <= i {
         return refused(e, Refusal::NoBand);
     }
@@ -64,6 +64,16 @@ pub fn set_band(e: Equaliser, i: usize, value: Decibels, numbers: Numbers) -> An
     done(states::with_band(e, i, value, numbers))
 }
 
+// A typed setting: 9, 2, 3, 4.
+pub fn set_band(e: Equaliser, i: usize, value: Decibels, numbers: Numbers) -> Answered
+    ensures { λ r. ⌜ told (r .equaliser) (r .answer) ≡ Calls.setBand e i value numbers ⌝ }
+{
+    if !states::acceptable(e) {
+        return refused(e, Refusal::BadState);
+    }
+    put(e, i, value, numbers)
+}
+
 // A setting by its name, with a value and its worked numbers: 9, 1, 2, 3, 4.
 pub fn set(e: Equaliser, name: &[u8], value: Decibels, numbers: Numbers) -> Answered
     ensures { λ r. ⌜ told (r .equaliser) (r .answer) ≡ Calls.set e (now (name .entry)) value numbers ⌝ }
@@ -74,7 +84,7 @@ pub fn set(e: Equaliser, name: &[u8], value: Decibels, numbers: Numbers) -> Answ
     let Setting::Band(i, v, n) = eq_bands::find(name, value, numbers) else {
         return refused(e, Refusal::NoSetting);
     };
-    set_band(e, i, v, n)
+    put(e, i, v, n)
 }
 
 // The value of the band of that name: 9, 1, 2.
@@ -118,5 +128,10 @@ pub fn block(e: Equaliser, input: &[f32], output: &mut [f32]) -> Answered
     if let Check::Refused(r) = found {
         return refused(e, r);
     }
-    done(samples::run(e, input, output))
+    let moved = samples::run(e, input, output);
+    let s = e.settings;
+    done(Equaliser {
+        settings: s,
+        registers: moved,
+    })
 }

@@ -69,21 +69,18 @@ pub fn with_band(e: Equaliser, i: usize, value: Decibels, numbers: Numbers) -> E
     requires { ⌜ i < 16 ⌝ }
     ensures { λ r. ⌜ r ≡ States.withBand e i value numbers ⌝ }
 {
-    let s = e.settings;
-    let m = e.registers;
-    let mut bands = s.bands;
-    let mut delays = m.bands;
-    let old = bands[i];
+    let mut s = e.settings;
+    let mut m = e.registers;
+    let old = s.bands[i];
     let n = old.numbers;
-    let d = delays[i];
-    bands[i] = eq_bands::taken(value, numbers);
-    delays[i] = cleared(eq_bands::clears(n, value), d);
+    let d = m.bands[i];
+    let b = eq_bands::taken(value, numbers);
+    let left = cleared(eq_bands::clears(n, value), d);
+    s.bands[i] = b;
+    m.bands[i] = left;
     Equaliser {
-        settings: Settings {
-            rate: s.rate,
-            bands: bands,
-        },
-        registers: Registers { bands: delays },
+        settings: s,
+        registers: m,
     }
 }
 

@@ -40,19 +40,32 @@ fn is_unity(value: Decibels) -> bool
     float::size64(float::widened(value.0)) < SMALLEST_GAIN
 }
 
-// The band that a setting leaves.
+fn settled(n: Numbers) -> Numbers
+    ensures { λ r. ⌜ r ≡ n ⌝ }
+{
+    Numbers {
+        b0: float::settled64(n.b0),
+        b1: float::settled64(n.b1),
+        b2: float::settled64(n.b2),
+        a1: float::settled64(n.a1),
+        a2: float::settled64(n.a2),
+    }
+}
+
+// The band that a setting leaves. Every NaN in it is the quiet one.
 pub fn taken(value: Decibels, numbers: Numbers) -> Band
     ensures { λ r. ⌜ r ≡ Bands.taken value numbers ⌝ }
 {
+    let kept = Decibels(float::settled32(value.0));
     if is_unity(value) {
         return Band {
-            value: value,
+            value: kept,
             numbers: PASSTHROUGH,
         };
     }
     Band {
-        value: value,
-        numbers: numbers,
+        value: kept,
+        numbers: settled(numbers),
     }
 }
 

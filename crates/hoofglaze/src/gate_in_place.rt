@@ -1,5 +1,5 @@
-// The gate where it lies: each call takes the host's own gate, calls the form by value and stores what
-// it gives. Assumes nothing.
+// The gate where it lies: each call takes the host's own gate, calls the form by value and stores the settings
+// and the registers that it gives, each by itself, so that the bytes between them stay. Assumes nothing.
 use crate::gate::hoofglaze_gate_block;
 use crate::gate::hoofglaze_gate_reset;
 use crate::gate::hoofglaze_gate_set;
@@ -19,7 +19,8 @@ pub extern "C" fn hoofglaze_gate_set_in_place(
     ensures { λ r. ⌜ toldIn (now (g .exit)) r ≡ calls.set (now (g .entry)) (now (name .entry)) value worked ⌝ }
 {
     let r = hoofglaze_gate_set(*g, name, value, worked);
-    *g = r.gate;
+    g.settings = r.gate.settings;
+    g.registers = r.gate.registers;
     r.answer
 }
 
@@ -28,7 +29,8 @@ pub extern "C" fn hoofglaze_gate_reset_in_place(g: &mut Gate) -> Numbered
     ensures { λ r. ⌜ toldIn (now (g .exit)) r ≡ calls.reset (now (g .entry)) ⌝ }
 {
     let r = hoofglaze_gate_reset(*g);
-    *g = r.gate;
+    g.settings = r.gate.settings;
+    g.registers = r.gate.registers;
     r.answer
 }
 
@@ -41,6 +43,7 @@ pub extern "C" fn hoofglaze_gate_block_in_place(
     ensures { λ r. ⌜ (toldIn (now (g .exit)) r, now (output .exit)) ≡ calls.block (now (g .entry)) (now (input .entry)) (now (output .entry)) ⌝ }
 {
     let r = hoofglaze_gate_block(*g, input, output);
-    *g = r.gate;
+    g.settings = r.gate.settings;
+    g.registers = r.gate.registers;
     r.answer
 }

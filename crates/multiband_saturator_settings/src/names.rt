@@ -86,8 +86,7 @@ fn of_band(n: Bands, b: Band) -> f32
     }
 }
 
-// The value kept for the setting that t is one of.
-pub fn kept(s: Settings, t: Setting) -> f32
+fn held(s: Settings, t: Setting) -> f32
     ensures { λ r. ⌜ r ≡ Names.kept s t ⌝ }
 {
     match t {
@@ -98,4 +97,11 @@ pub fn kept(s: Settings, t: Setting) -> f32
             Frequency::High => s.frequencies.high,
         },
     }
+}
+
+// The value kept for the setting that t is one of, any NaN as the quiet one.
+pub fn kept(s: Settings, t: Setting) -> f32
+    ensures { λ r. ⌜ r ≡ Names.kept s t ⌝ }
+{
+    answer::settled32(held(s, t))
 }

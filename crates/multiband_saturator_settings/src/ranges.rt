@@ -7,6 +7,7 @@ use crate::Numbers;
 use crate::Setting;
 use crate::Settings;
 use answer::both;
+use answer::settled32;
 ghost use mathlib.Core.Path.{_≡_};
 ghost use Rattle.multiband_saturator_settings.specs.Ranges as Ranges;
 
@@ -72,11 +73,43 @@ fn with_band(n: Bands, b: Band, v: f32) -> Bands
     next
 }
 
-// The settings with t taken.
+fn settled_numbers(n: Numbers) -> Numbers
+    ensures { λ r. ⌜ r ≡ n ⌝ }
+{
+    Numbers {
+        b0: settled32(n.b0),
+        b1: settled32(n.b1),
+        b2: settled32(n.b2),
+        a1: settled32(n.a1),
+        a2: settled32(n.a2),
+    }
+}
+
+fn settled_crossover(c: Crossover) -> Crossover
+    ensures { λ r. ⌜ r ≡ c ⌝ }
+{
+    let lowpass = settled_numbers(c.lowpass);
+    let highpass = settled_numbers(c.highpass);
+    Crossover { lowpass, highpass }
+}
+
+// t, every NaN in it the quiet one.
+fn settled(t: Setting) -> Setting
+    ensures { λ r. ⌜ r ≡ t ⌝ }
+{
+    match t {
+        Setting::Drive(b, v) => Setting::Drive(b, settled32(v)),
+        Setting::Level(b, v) => Setting::Level(b, settled32(v)),
+        Setting::Freq(f, v, c) => Setting::Freq(f, settled32(v), settled_crossover(c)),
+    }
+}
+
+// The settings with t taken, its NaNs settled; the others stay as they are.
 pub fn with_setting(mut s: Settings, t: Setting) -> Settings
     ensures { λ r. ⌜ r ≡ Ranges.withSetting s t ⌝ }
 {
-    match t {
+    let taken = settled(t);
+    match taken {
         Setting::Drive(b, v) => s.drives = with_band(s.drives, b, v),
         Setting::Level(b, v) => s.levels = with_band(s.levels, b, v),
         Setting::Freq(f, v, c) => match f {

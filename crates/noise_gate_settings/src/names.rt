@@ -4,6 +4,7 @@ use crate::Setting;
 use crate::Settings;
 use answer::Decibels;
 use answer::Factor;
+use answer::settled32;
 ghost use mathlib.Core.Bool.{cond};
 ghost use mathlib.Core.Path.{_≡_};
 ghost use Rattle.answer.specs.Names.{same};
@@ -46,8 +47,7 @@ pub fn find(name: &[u8], v: f32, w: f32) -> Named
     )
 }
 
-// The value kept for the setting that t is one of.
-pub fn kept(s: Settings, t: Setting) -> f32
+fn held(s: Settings, t: Setting) -> f32
     ensures { λ r. ⌜ r ≡ Names.kept s t ⌝ }
 {
     match t {
@@ -57,4 +57,11 @@ pub fn kept(s: Settings, t: Setting) -> f32
         Setting::Release(_, _) => s.release.ms,
         Setting::Hold(_) => s.hold,
     }
+}
+
+// The value kept for the setting that t is one of, any NaN as the quiet one.
+pub fn kept(s: Settings, t: Setting) -> f32
+    ensures { λ r. ⌜ r ≡ Names.kept s t ⌝ }
+{
+    settled32(held(s, t))
 }

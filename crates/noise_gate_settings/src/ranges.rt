@@ -2,7 +2,10 @@
 use crate::Setting;
 use crate::Settings;
 use crate::Timed;
+use answer::Decibels;
+use answer::Factor;
 use answer::both;
+use answer::settled32;
 ghost use mathlib.Core.Path.{_≡_};
 ghost use Rattle.noise_gate_settings.specs.Ranges as Ranges;
 
@@ -43,12 +46,28 @@ fn allowed(t: Setting) -> bool
     both(in_its_range(t), worked(t))
 }
 
-// The settings with t taken.
+// t, every NaN in it the quiet one.
+fn settled(t: Setting) -> Setting
+    ensures { λ r. ⌜ r ≡ t ⌝ }
+{
+    match t {
+        Setting::Threshold(d, k) => {
+            Setting::Threshold(Decibels(settled32(d.0)), Factor(settled32(k.0)))
+        }
+        Setting::Ratio(r) => Setting::Ratio(settled32(r)),
+        Setting::Attack(t, c) => Setting::Attack(settled32(t), settled32(c)),
+        Setting::Release(t, c) => Setting::Release(settled32(t), settled32(c)),
+        Setting::Hold(t) => Setting::Hold(settled32(t)),
+    }
+}
+
+// The settings with t taken, its NaNs settled; the others stay as they are.
 pub fn with_setting(s: Settings, t: Setting) -> Settings
     ensures { λ r. ⌜ r ≡ Ranges.withSetting s t ⌝ }
 {
     let mut n = s;
-    match t {
+    let taken = settled(t);
+    match taken {
         Setting::Threshold(d, k) => {
             n.threshold = d;
             n.factor = k;

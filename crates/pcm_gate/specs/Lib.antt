@@ -2,3 +2,4 @@
 pub mod Bytes
 pub mod Pass
 pub mod Program
+pub mod Turns

@@ -3,7 +3,7 @@
 mod Bounded
 mod Held
 mod Range
-mod Done
+pub mod Done
 use mathlib.Core.Path.{refl}
 use lib.Dec.{eqb, leb}
 use lib.ListN.{length}

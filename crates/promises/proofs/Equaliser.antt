@@ -1,6 +1,7 @@
 -- The equaliser keeps what the page `Equaliser` promises.
 -- Assumes nothing.
 mod Settable
+mod Reached
 use mathlib.Core.Path.{_≡_, refl, ap}
 use mathlib.Core.Bool.{Bool, true, false}
 use mathlib.Core.List.{List}
@@ -28,8 +29,9 @@ use Rattle.eq_bands.specs.declared.Setting.the-variants as setting
 use Rattle.eq.specs.States.{acceptable, unmade, bandAt, delayAt, withBand}
 use Rattle.eq.specs.Calls.{make, setBand, setFound, set, readFound, read, reset, block}
 use Rattle.eq.specs.declared.Equaliser.{Equaliser}
-use Rattle.promises.specs.Equaliser.{Refusals, Unmade, Accepted, Other, Kept, Answers}
+use Rattle.promises.specs.Equaliser.{Refusals, Unmade, Accepted, Exactly, Other, Kept, Answers}
 use Rattle.promises.proofs.Equaliser.Settable.{made-accepted, set-accepted}
+use Rattle.promises.proofs.Equaliser.Reached.{reached}
 
 -- ---- a refusal changes nothing
 module _ (e : Equaliser) where
@@ -150,6 +152,9 @@ accepted = record {
   reset = λ e. ap settable (reset-kept e);
   block = λ e xs out. ap settable (block-kept e xs out);
 }
+
+pub exactly : Exactly
+exactly = record { could-be-set = reached }
 
 pub answers : Answers
 answers = record { answer = λ e f. answer-back; reading = λ e f. reading-back }

@@ -1,5 +1,6 @@
 -- The promises' proofs, a page a stage.
 mod Order
+pub mod Shared
 pub mod Lone
 pub mod NoiseGate
 pub mod Program
@@ -7,3 +8,4 @@ pub mod Clipper
 pub mod Equaliser
 pub mod ToneStack
 pub mod Saturator
+pub mod Signal

@@ -1,9 +1,13 @@
 -- The noise gate keeps what the page `NoiseGate` promises.
 -- Assumes nothing.
+mod Reached
+mod Apart
 use mathlib.Core.Path.{_≡_, refl, sym, ap}
 use mathlib.Core.Bool.{false, _&&_}
 use Prim.Native.Nat.{ℕ}
+use lib.Dec.{T}
 use lib.Ieee.{le, lt, whole}
+use lib.Ieee.Fits.{and-i, and-l, and-r}
 use Rattle.answer.specs.Figures.{f32}
 use Rattle.answer.specs.Checks.{isRate, isSmoothing}
 use Rattle.answer.specs.Told.{Told, Unchanged}
@@ -17,7 +21,7 @@ use Rattle.noise_gate_settings.specs.Names.{named}
 use Rattle.noise_gate_settings.specs.declared.Setting.{Setting}
 use Rattle.noise_gate_settings.specs.declared.Named.{Named}
 use Rattle.noise_gate_settings.specs.declared.Named.the-variants.{Known, Unknown}
-use Rattle.noise_gate.specs.Bounds.{acceptable}
+use Rattle.noise_gate.specs.Bounds.{inBounds, acceptable}
 use Rattle.noise_gate.specs.Answers.{toldBlock}
 use Rattle.noise_gate.specs.Calls as calls
 use Rattle.noise_gate.specs.Calls.{setTyped, setFound, readFound}
@@ -27,7 +31,9 @@ use Rattle.noise_gate.specs.declared.Passage.the-variants.{Done, Refused}
 use Rattle.silence.specs.History.{carried}
 use Rattle.silence.proofs.Accepted.{accepts, accepted-hold}
 use Rattle.silence.proofs.Along.{along}
-use Rattle.promises.specs.NoiseGate.{Refusals, Unmade, Accepted, Answers}
+use Rattle.promises.specs.NoiseGate.{Refusals, Unmade, Accepted, Exactly, OneWay, Answers}
+use Rattle.promises.proofs.NoiseGate.Reached.{reached-settable, settable-reached}
+use Rattle.promises.proofs.NoiseGate.Apart.{typed-apart, named-apart}
 
 -- ---- refusals: each call is a chain of tests
 module _ (g : Gate) where
@@ -79,6 +85,19 @@ accepted = record {
       accepts (carried (calls.make rate rising falling .state) cs) (k .settable) (k .bounded);
   hold-samples = accepted-hold;
 }
+
+pub exactly : Exactly
+unfolding acceptable
+exactly = record {
+  nine = λ g.
+      let s = g .settings in
+      let m = g .registers in
+      (λ (t : T (acceptable g)). (settable-reached s (and-l (settable s) (inBounds m) t), and-r (settable s) (inBounds m) t), λ r. and-i (settable s) (inBounds m) (reached-settable s (r .0)) (r .1));
+}
+
+-- ---- decibels and factors
+pub one-way : OneWay
+one-way = record { set-typed = typed-apart; set = named-apart }
 
 -- ---- answers
 module _ {g h : Gate} where

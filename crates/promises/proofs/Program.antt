@@ -57,4 +57,4 @@ cuts = record {
 }
 
 pub in-blocks : InBlocks
-in-blocks = record { bytes = program-in-blocks }
+in-blocks = program-in-blocks

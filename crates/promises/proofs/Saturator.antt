@@ -1,6 +1,7 @@
 -- The multiband saturator keeps what the page `Saturator` promises.
 -- Assumes nothing.
 mod Settable
+mod Reached
 use mathlib.Core.Path.{_≡_, refl, sym, ap}
 use mathlib.Core.Bool.{Bool, true, false}
 use mathlib.Core.List.{List}
@@ -22,8 +23,9 @@ use Rattle.multiband_saturator_settings.specs.declared.Named.{Named}
 use Rattle.multiband_saturator_settings.specs.declared.Named.the-variants.{Known, Unknown}
 use Rattle.multiband_saturator.specs.Calls.{saturatorOf, unmade, made, make, setTyped, setFound, set, readFound, read, reset, block}
 use Rattle.multiband_saturator.specs.declared.Saturator.{Saturator}
-use Rattle.promises.specs.Saturator.{Refusals, Unmade, Accepted, Kept, Answers}
+use Rattle.promises.specs.Saturator.{Refusals, Unmade, Accepted, Exactly, Kept, Answers}
 use Rattle.promises.proofs.Saturator.Settable.{made-settable, still-settable}
+use Rattle.promises.proofs.Saturator.Reached.{reached}
 
 -- ---- a refusal changes nothing
 module _ (s : Saturator) where
@@ -127,6 +129,9 @@ accepted = record {
   reset = λ s. ap settable (reset-settings s);
   block = λ s xs out. ap settable (block-settings s xs out);
 }
+
+pub exactly : Exactly
+exactly = record { could-be-set = reached }
 
 pub answers : Answers
 answers = record { answer = λ s t. answer-back; reading = λ s t. reading-back }

@@ -1,10 +1,11 @@
 -- The tone stack keeps what the page `ToneStack` promises.
 -- Assumes nothing.
 mod Clamped
+mod Reached
 use mathlib.Core.Path.{_≡_, refl, ap}
 use mathlib.Core.Bool.{Bool, true, false}
 use mathlib.Core.List.{List}
-use lib.Ieee.{Float, le, lt, eq, whole}
+use lib.Ieee.{Float, le, lt, whole}
 use Rattle.answer.specs.Figures.{f32}
 use Rattle.answer.specs.Blocks.{checkedBlock}
 use Rattle.answer.specs.Checks.{isRate}
@@ -15,15 +16,16 @@ use Rattle.answer.proofs.Told.{unchanged-done, unchanged-test, block-by, block-
 use Rattle.common.specs.declared.frequencies.Model.{Model}
 use Rattle.common.specs.declared.frequencies.Model.the-variants.{Modern, British, American, Flat}
 use Rattle.tonestack_sample.specs.Models.{numberOf, modelOf}
-use Rattle.tonestack_sample.specs.Ranges.{isNumber, worked, withSetting, isControl, isFactor, settable}
+use Rattle.tonestack_sample.specs.Ranges.{isNumber, worked, withSetting, settable}
 use Rattle.tonestack_sample.specs.Names.{named}
 use Rattle.tonestack_sample.specs.declared.Setting.{Setting}
 use Rattle.tonestack_sample.specs.declared.Named.{Named}
 use Rattle.tonestack_sample.specs.declared.Named.the-variants.{Known, Unknown}
-use Rattle.tonestack.specs.Calls.{toneOf, acceptable, madeSettings, unmade, make, setTyped, setFound, set, readFound, read, reset, block}
+use Rattle.tonestack.specs.Calls.{toneOf, acceptable, unmade, make, setTyped, setFound, set, readFound, read, reset, block}
 use Rattle.tonestack.specs.declared.Tone.{Tone}
-use Rattle.promises.specs.ToneStack.{Refusals, Unmade, Accepted, Kept, Answers}
-use Rattle.promises.proofs.ToneStack.Clamped.{still-settable}
+use Rattle.promises.specs.ToneStack.{Refusals, Unmade, Accepted, Exactly, Kept, Answers}
+use Rattle.promises.proofs.ToneStack.Clamped.{made-settable, still-settable}
+use Rattle.promises.proofs.ToneStack.Reached.{reached}
 
 -- ---- a refusal changes nothing
 module _ (t : Tone) where
@@ -92,13 +94,6 @@ pub kept : Kept
 kept = record { reset = reset-settings; block = block-settings; model = numbered-back }
 
 -- ---- 9 accepts what calls leave
-made-settable : (model : Model) (rate : Float) → isRate rate ≡ true → settable (madeSettings model rate) ≡ true
-unfolding settable madeSettings numberOf isControl isFactor le lt eq f32
-made-settable Modern rate h = rw h
-made-settable British rate h = rw h
-made-settable American rate h = rw h
-made-settable Flat rate h = rw h
-
 module _ (t : Tone) where
   typed-accepted : (v : Setting) → acceptable t ≡ true → acceptable (setTyped t v .state) ≡ true
   unfolding setTyped acceptable
@@ -123,6 +118,9 @@ accepted = record {
   reset = λ t. ap settable (reset-settings t);
   block = λ t xs out. ap settable (block-settings t xs out);
 }
+
+pub exactly : Exactly
+exactly = record { could-be-set = reached }
 
 pub answers : Answers
 answers = record { answer = λ t u. answer-back; reading = λ t u. reading-back }

@@ -2,9 +2,11 @@
 -- Assumes nothing.
 use mathlib.Core.Path.{_≡_}
 use mathlib.Core.Bool.{true}
-use mathlib.Core.List.{List}
+use mathlib.Core.List.{List, [], _∷_}
 use Prim.Native.Nat.{ℕ}
-use lib.Ieee.{Float}
+use lib.Dec.{T}
+use lib.ListN.{length}
+use lib.Ieee.{Float, binary64, fits}
 use Rattle.answer.specs.Blocks.{BlockUnchanged}
 use Rattle.answer.specs.Told.{Told, refused, told, toldRead, Unchanged}
 use Rattle.answer.specs.declared.Answer.{Answer}
@@ -12,6 +14,7 @@ use Rattle.answer.specs.declared.Decibels.{Decibels}
 use Rattle.answer.specs.declared.Reading.{Reading}
 use Rattle.answer.specs.declared.Refusal.the-variants.{BadState}
 use Rattle.eq_bands.specs.declared.Numbers.{Numbers}
+use Rattle.eq_bands.specs.declared.Band.{Band}
 use Rattle.eq.specs.States.{acceptable, unmade, bandAt, delayAt}
 use Rattle.eq.specs.Calls as calls
 use Rattle.eq.specs.declared.Equaliser.{Equaliser}
@@ -40,6 +43,36 @@ pub record Accepted : Type 0 where
   pub set : (e : Equaliser) (name : List ℕ) (value : Decibels) (numbers : Numbers) → acceptable e ≡ true → acceptable (calls.set e name value numbers .state) ≡ true
   pub reset : (e : Equaliser) → acceptable (calls.reset e .state) ≡ acceptable e
   pub block : (e : Equaliser) (xs out : List Float) → acceptable (calls.block e xs out .0 .state) ≡ acceptable e
+
+-- ---- 9 is given wherever "a state's settings, rate or worked numbers couldn't have been set or made": what it accepts are settings that a making that is done and some list of settings leave. Registers may hold any bits
+-- a setting of one band
+pub record BandSet : Type 0 where
+  pub band : ℕ
+  pub value : Decibels
+  pub numbers : Numbers
+
+-- settings, one after the other
+abbrev pub setAll : Equaliser → List BandSet → Equaliser
+setAll e [] = e
+setAll e (c ∷ cs) = setAll (calls.setBand e (c .band) (c .value) (c .numbers) .state) cs
+
+pub record ByCalls (e : Equaliser) : Type 0 where
+  pub rate : Float
+  pub sets : List BandSet
+  pub made : calls.make rate .number ≡ 0
+  pub same : setAll (calls.make rate .state) sets .settings ≡ e .settings
+
+-- the five numbers of every band are f64s: a float of the logic may be none
+abbrev pub NumbersF64 : Numbers → Type 0
+NumbersF64 n = T (fits binary64 (n .b0)) × T (fits binary64 (n .b1)) × T (fits binary64 (n .b2)) × T (fits binary64 (n .a1)) × T (fits binary64 (n .a2))
+
+abbrev pub InF64 : List Band → Type 0
+InF64 [] = Unit {0}
+InF64 (b ∷ bs) = NumbersF64 (b .numbers) × InF64 bs
+
+-- the code's array has sixteen bands; a list of the logic may have any number
+pub record Exactly : Type 0 where
+  pub could-be-set : (e : Equaliser) → length (e .settings .bands) ≡ 16 → InF64 (e .settings .bands) → acceptable e ≡ true → ByCalls e
 
 -- band j and its registers are as they were
 pub record Other (e : Equaliser) (j : ℕ) (t : Told Equaliser) : Type 0 where

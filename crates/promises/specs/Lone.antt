@@ -1,6 +1,7 @@
 -- What a lone follower and a lone DC blocker promise, in document 01's words. Statements only.
 -- Assumes nothing.
 use mathlib.Core.Path.{_≡_}
+use mathlib.Core.Logic.{_↔_}
 use lib.Ieee.{Float}
 use Rattle.answer.specs.Told.{refused, told, toldRead, Unchanged}
 use Rattle.answer.specs.declared.Answer.{Answer}
@@ -26,6 +27,35 @@ pub record Unmade : Type 0 where
   pub blocker-make : (c : Float) → Unchanged blocker.unmade (blocker.make c)
   pub blocker-step : (x : Float) → blocker.step blocker.unmade x ≡ refused blocker.unmade BadState
   pub blocker-reset : blocker.reset blocker.unmade ≡ refused blocker.unmade BadState
+
+-- c that could have been made: those of a state whose making was done
+pub record FollowerMade (f : Follower) : Type 0 where
+  pub attack : Float
+  pub release : Float
+  pub made : follower.make attack release .number ≡ 0
+  pub its-attack : follower.make attack release .state .attack ≡ f .attack
+  pub its-release : follower.make attack release .state .release ≡ f .release
+
+pub record BlockerMade (b : Blocker) : Type 0 where
+  pub c : Float
+  pub made : blocker.make c .number ≡ 0
+  pub its-c : blocker.make c .state .c ≡ b .c
+
+-- 9 is given "exactly when .. worked numbers couldn't have been .. made": a step or a reset is done exactly on a state whose c could have been, whatever bits its registers hold
+pub record Exactly : Type 0 where
+  pub follower-step : (f : Follower) (x : Float) → (follower.step f x .number ≡ 0) ↔ FollowerMade f
+  pub follower-reset : (f : Follower) → (follower.reset f .number ≡ 0) ↔ FollowerMade f
+  pub blocker-step : (b : Blocker) (x : Float) → (blocker.step b x .number ≡ 0) ↔ BlockerMade b
+  pub blocker-reset : (b : Blocker) → (blocker.reset b .number ≡ 0) ↔ BlockerMade b
+
+-- and making and every call leave such c, so 9 refuses none of the states that they leave
+pub record Accepted : Type 0 where
+  pub follower-make : (attack release : Float) → follower.make attack release .number ≡ 0 → FollowerMade (follower.make attack release .state)
+  pub follower-step : (f : Follower) (x : Float) → FollowerMade f → FollowerMade (follower.step f x .state)
+  pub follower-reset : (f : Follower) → FollowerMade f → FollowerMade (follower.reset f .state)
+  pub blocker-make : (c : Float) → blocker.make c .number ≡ 0 → BlockerMade (blocker.make c .state)
+  pub blocker-step : (b : Blocker) (x : Float) → BlockerMade b → BlockerMade (blocker.step b x .state)
+  pub blocker-reset : (b : Blocker) → BlockerMade b → BlockerMade (blocker.reset b .state)
 
 -- no two answers tell the same: what a call tells gives its state and its answer back
 pub record Answers : Type 0 where

@@ -1,19 +1,23 @@
 -- What the noise gate promises, in document 01's words; what silence means is a page of its own, the crate `silence`. Statements only.
 -- Assumes nothing.
 use mathlib.Core.Path.{_≡_}
+use mathlib.Core.Logic.{_↔_}
 use mathlib.Core.List.{List, [], _∷_}
 use Prim.Native.Nat.{ℕ, _≤_}
 use lib.Dec.{T}
 use lib.Ieee.{Float}
+use Rattle.answer.specs.Names.{bytes}
 use Rattle.answer.specs.Told.{refused, told, toldRead, Unchanged}
 use Rattle.answer.specs.Blocks.{BlockUnchanged}
 use Rattle.answer.specs.declared.Answer.{Answer}
 use Rattle.answer.specs.declared.Reading.{Reading}
 use Rattle.answer.specs.declared.Refusal.the-variants.{BadState}
 use Rattle.noise_gate_sample.specs.Step.{holdSamples}
+use Rattle.noise_gate_settings.specs.declared.Settings.{Settings}
 use Rattle.noise_gate_settings.specs.declared.Setting.{Setting}
+use Rattle.noise_gate_settings.specs.declared.Setting.the-variants.{Threshold}
 use Rattle.noise_gate.specs.Figures.{longestCount}
-use Rattle.noise_gate.specs.Bounds.{acceptable}
+use Rattle.noise_gate.specs.Bounds.{inBounds, acceptable}
 use Rattle.noise_gate.specs.Answers.{toldBlock}
 use Rattle.noise_gate.specs.Calls as calls
 use Rattle.noise_gate.specs.declared.Gate.{Gate}
@@ -42,6 +46,27 @@ pub record Accepted : Type 0 where
   pub carried-on : (rate rising falling : Float) → T (allF32 (rate ∷ rising ∷ falling ∷ [])) → calls.make rate rising falling .number ≡ 0
       → (cs : List Call) → InF32 cs → T (acceptable (carried (calls.make rate rising falling .state) cs))
   pub hold-samples : (g : Gate) → T (acceptable g) → SettingsF32 (g .settings) → holdSamples (g .settings) ≤ longestCount
+
+-- settings, rate and worked numbers that could have been "set or made": those of a gate whose making was done, after some calls
+pub record Reached (s : Settings) : Type 0 where
+  pub rate : Float
+  pub rising : Float
+  pub falling : Float
+  pub made : calls.make rate rising falling .number ≡ 0
+  pub since : List Call
+  pub left : carried (calls.make rate rising falling .state) since .settings ≡ s
+  -- by f32s, where these are
+  pub by-f32 : SettingsF32 s → T (allF32 (rate ∷ rising ∷ falling ∷ [])) × InF32 since
+
+-- 9 is given "exactly when .. a state's settings, rate or worked numbers couldn't have been set or made, or the gate's level, state or counter is out of bounds"
+pub record Exactly : Type 0 where
+  pub nine : (g : Gate) → T (acceptable g) ↔ (Reached (g .settings) × T (inBounds (g .registers)))
+
+-- "Decibels and linear factors are kept apart ..; neither is ever accepted for the other." By name both are bare numbers: none is accepted both as dB and as factor, by whichever gates, so no pair of them both ways round
+pub record OneWay : Type 0 where
+  pub set-typed : (g h : Gate) (x y z : Float) → calls.setTyped g (Threshold (record { 0 = x }) (record { 0 = y })) .number ≡ 0
+      → calls.setTyped h (Threshold (record { 0 = z }) (record { 0 = x })) .number ≡ 0 → ⊥
+  pub set : (g h : Gate) (x y z : Float) → calls.set g (bytes "threshold") x y .number ≡ 0 → calls.set h (bytes "threshold") z x .number ≡ 0 → ⊥
 
 -- no two answers tell the same: what a call tells gives its gate and its answer back
 pub record Answers : Type 0 where

@@ -11,8 +11,9 @@ use Rattle.answer.specs.Blocks.{BlockUnchanged}
 use Rattle.noise_gate.specs.Bounds.{acceptable}
 use Rattle.noise_gate.specs.declared.Gate.{Gate}
 use Rattle.silence.specs.History.{allF32, SettingsF32}
-use Rattle.pcm_gate.specs.Pass.{pass}
+use Rattle.pcm_gate.specs.Pass.{openCount, pass}
 use Rattle.pcm_gate.specs.Program.{programGate, program}
+use Rattle.pcm_gate.specs.Turns.{begun, wrapped, toldOf, given, joined, after, ended, givenAll, Even, Full}
 
 -- "No refusal changes a state or an output buffer."
 pub record Refusals : Type 0 where
@@ -37,23 +38,11 @@ pub record EvenCut : Type 0 where
   pub accepted : (g : Gate) → Sound g → (input out : List ℕ) → T (acceptable (pass g input out .0 .state))
 
 -- ---- the program's input in blocks, each but the last of an even number of bytes
--- blocks joined, the last one any
-abbrev pub joined : List (List ℕ) → List ℕ → List ℕ
-joined [] last = last
-joined (b ∷ blocks) last = b ++ joined blocks last
-
-abbrev pub Even : List (List ℕ) → Type 0
-Even [] = Unit {0}
-Even (b ∷ blocks) = (length b % 2 ≡ 0) × Even blocks
-
--- the whole samples of a call's output, and those of all calls; a call's buffer holds the input before it
-abbrev pub given : Gate → List ℕ → List ℕ
-given g b = take (length b / 2 * 2) (pass g b b .1)
-
-abbrev pub givenAll : Gate → List (List ℕ) → List ℕ → List ℕ
-givenAll g [] last = given g last
-givenAll g (b ∷ blocks) last = given g b ++ givenAll (pass g b b .0 .state) blocks last
-
--- the whole samples that the blocks give, one block after the other, are the program's bytes
+-- the whole samples that the blocks give, one block after the other, are the program's bytes; the two counts are those of the whole input, in 64 bits; no block is refused; what a buffer held before is in none of the whole samples. The program's own blocks are full, so they are such
 pub record InBlocks : Type 0 where
-  pub bytes : (blocks : List (List ℕ)) (last : List ℕ) → Even blocks → givenAll programGate blocks last ≡ program (joined blocks last)
+  pub bytes : (blocks : List (List ℕ)) (last : List ℕ) → Even blocks → givenAll begun blocks last ≡ program (joined blocks last)
+  pub samples : (blocks : List (List ℕ)) (last : List ℕ) → Even blocks → ended blocks last .samples ≡ wrapped (length (joined blocks last) / 2)
+  pub aimed : (blocks : List (List ℕ)) (last : List ℕ) → Even blocks → ended blocks last .aimed ≡ wrapped (openCount (programGate .settings) (programGate .registers) (joined blocks last))
+  pub done : (blocks : List (List ℕ)) (last : List ℕ) → toldOf (after begun blocks) last .number ≡ 0
+  pub whole : (blocks : List (List ℕ)) (last out : List ℕ) → length last ≡ length out → take (length last / 2 * 2) (pass (after begun blocks .gate) last out .1) ≡ given (after begun blocks) last
+  pub even : (blocks : List (List ℕ)) → Full blocks → Even blocks

@@ -2,7 +2,7 @@
 -- Assumes nothing.
 use mathlib.Core.Path.{_≡_}
 use mathlib.Core.Bool.{true}
-use mathlib.Core.List.{List}
+use mathlib.Core.List.{List, [], _∷_}
 use Prim.Native.Nat.{ℕ}
 use lib.Ieee.{Float}
 use Rattle.answer.specs.Blocks.{BlockUnchanged}
@@ -41,6 +41,26 @@ pub record Accepted : Type 0 where
   pub set : (s : Saturator) (name : List ℕ) (v : Float) (c : Crossover) → settable (s .settings) ≡ true → settable (calls.set s name v c .state .settings) ≡ true
   pub reset : (s : Saturator) → settable (calls.reset s .state .settings) ≡ settable (s .settings)
   pub block : (s : Saturator) (xs out : List Float) → settable (calls.block s xs out .0 .state .settings) ≡ settable (s .settings)
+
+-- ---- 9 is given wherever "a state's settings, rate or worked numbers couldn't have been set or made": what it accepts are settings that a making that is done and some list of settings leave. Registers may hold any bits
+-- settings, one after the other
+abbrev pub setAll : Saturator → List Setting → Saturator
+setAll s [] = s
+setAll s (t ∷ ts) = setAll (calls.setTyped s t .state) ts
+
+pub record ByCalls (s : Saturator) : Type 0 where
+  pub rate : Float
+  pub low : Crossover
+  pub high : Crossover
+  pub attack : Float
+  pub release : Float
+  pub blocker : Float
+  pub sets : List Setting
+  pub made : calls.make rate low high attack release blocker .number ≡ 0
+  pub same : setAll (calls.make rate low high attack release blocker .state) sets .settings ≡ s .settings
+
+pub record Exactly : Type 0 where
+  pub could-be-set : (s : Saturator) → settable (s .settings) ≡ true → ByCalls s
 
 -- "Reset sets them to 0 and keeps settings"; a block keeps them too; at a setting "registers stay"
 pub record Kept : Type 0 where

@@ -2,7 +2,7 @@
 -- Assumes nothing.
 use mathlib.Core.Path.{_≡_}
 use mathlib.Core.Bool.{true}
-use mathlib.Core.List.{List}
+use mathlib.Core.List.{List, [], _∷_}
 use Prim.Native.Nat.{ℕ}
 use lib.Ieee.{Float}
 use Rattle.answer.specs.Blocks.{BlockUnchanged}
@@ -42,6 +42,22 @@ pub record Accepted : Type 0 where
   pub set : (t : Tone) (name : List ℕ) (v w : Float) → acceptable t ≡ true → acceptable (calls.set t name v w .state) ≡ true
   pub reset : (t : Tone) → acceptable (calls.reset t .state) ≡ acceptable t
   pub block : (t : Tone) (xs out : List Float) → acceptable (calls.block t xs out .0 .state) ≡ acceptable t
+
+-- ---- 9 is given wherever "a state's settings, rate or worked numbers couldn't have been set or made": what it accepts are settings that a making that is done and some list of settings leave. Registers may hold any bits
+-- settings, one after the other
+abbrev pub setAll : Tone → List Setting → Tone
+setAll t [] = t
+setAll t (v ∷ vs) = setAll (calls.setTyped t v .state) vs
+
+pub record ByCalls (t : Tone) : Type 0 where
+  pub model : Model
+  pub rate : Float
+  pub sets : List Setting
+  pub made : calls.make model rate .number ≡ 0
+  pub same : setAll (calls.make model rate .state) sets .settings ≡ t .settings
+
+pub record Exactly : Type 0 where
+  pub could-be-set : (t : Tone) → acceptable t ≡ true → ByCalls t
 
 -- "Reset sets them to 0 and keeps settings"; a block keeps them too, and a made tone stack's number is its model's
 pub record Kept : Type 0 where

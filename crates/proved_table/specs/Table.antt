@@ -4,7 +4,7 @@ use Prim.Native.Nat.{ℕ, _-_}
 use Prim.Native.String.{String}
 use mathlib.Core.Bool.{cond}
 use mathlib.Core.List.{List, [], _∷_, map}
-use lib.Ieee.{binary32, ofBits, toBits, ofInt, toUnsigned, whole, neg, mul, sub, div, eq, lt, le}
+use lib.Ieee.{binary32, ofBits, toBits, ofInt, toUnsigned, whole, neg, add, mul, sub, div, eq, lt, le}
 use Rattle.rounding.specs.Fma.{fma}
 use Rattle.rounding.specs.Casts.{absolute}
 use Rattle.answer.specs.Figures.{f32, f64, nought, one}
@@ -14,17 +14,21 @@ use Rattle.fold.specs.Fold.{stateAfter, outAfter}
 use Rattle.common.specs.Follower.{toward, followed}
 use Rattle.noise_gate_settings.specs.Ranges.{inItsRange, worked, allowed, withSetting, settable}
 use Rattle.noise_gate_settings.specs.declared.Settings.{Settings}
-use Rattle.noise_gate_settings.specs.declared.Setting.the-variants.{Hold}
+use Rattle.noise_gate_settings.specs.declared.Setting.the-variants.{Release, Hold}
 use Rattle.noise_gate_sample.specs.Step.{holdSamples, gainAt, level, loud, counter, aim, target, state, gain, output, next}
 use Rattle.noise_gate.specs.Bounds.{inBounds, acceptable}
 use Rattle.noise_gate.specs.Calls.{atRest, madeSettings, make, setTyped}
+use Rattle.noise_gate_sample.specs.declared.Registers.{Registers}
 use Rattle.eq_bands.specs.Bands as Bands
-use Rattle.eq_bands.specs.Names.{allDigits, behind, numberOf, afterPlus, indexOf}
+use Rattle.eq_bands.specs.Bands.{passthrough}
+use Rattle.eq_bands.specs.Names.{allDigits, behind, numberOf, afterPlus, indexOf, settingAt, named}
 use Rattle.eq_bands.specs.declared.Index.{Index}
 use Rattle.eq_bands.specs.declared.Index.the-variants as index
 use Rattle.eq.specs.States as States
-use Rattle.eq.specs.States.{made, bandAt, valueAt}
-use Rattle.eq.specs.Calls.{readFound, read}
+use Rattle.eq.specs.States.{made, bandAt, delayAt, valueAt, withBand}
+use Rattle.eq.specs.Calls.{setBand, setFound, set, readFound, read}
+use Rattle.eq.specs.declared.Equaliser.{Equaliser}
+use Rattle.answer.specs.Told.{Told}
 use Rattle.pcm.specs.Samples.{sampleOf, wordOf, heard, wholeSize, toWhole, written}
 use Rattle.pcm_gate.specs.Bytes.{wordsOf, bytesOf}
 use Rattle.pcm_gate.specs.Pass as Pass
@@ -39,9 +43,14 @@ unfoldable pub onBits : ℕ → ℕ → ℕ → ℕ
 unfolding fma ofBits toBits
 onBits a b c = toBits binary32 (fma binary32 (ofBits binary32 a) (ofBits binary32 b) (ofBits binary32 c))
 
+-- the same by two roundings: the product's, then the sum's
+unfoldable pub apart : ℕ → ℕ → ℕ → ℕ
+unfolding add mul ofBits toBits
+apart a b c = toBits binary32 (add binary32 (mul binary32 (ofBits binary32 a) (ofBits binary32 b)) (ofBits binary32 c))
+
 unfoldable pub p1 : Row
-unfolding onBits
-p1 = record { given = onBits 0x3f80_0001 0x3f80_0001 0xbf80_0002 ∷ []; said = 0x2880_0000 ∷ [] }
+unfolding onBits apart
+p1 = record { given = onBits 0x3f80_0001 0x3f80_0001 0xbf80_0002 ∷ apart 0x3f80_0001 0x3f80_0001 0xbf80_0002 ∷ []; said = 0x2880_0000 ∷ 0 ∷ [] }
 
 unfoldable pub p2 : Row
 unfolding onBits
@@ -75,10 +84,13 @@ aimsOpen n d =
     let s = holding n d in
     cond (aim s (next s atRest (f32 2 1)) nought) 1 0
 
--- closing from a state by a smoothing number, on bits
+-- the state that a sample that is not loud leaves a gate in, from a state and with release's smoothing number, on bits
 unfoldable pub closedTo : ℕ → ℕ → ℕ
-unfolding toward ofBits toBits mul sub fma
-closedTo c state = toBits binary32 (toward (ofBits binary32 c) (ofBits binary32 state) nought)
+unfolding holding withSetting next level loud counter aim target state followed toward ofBits toBits mul sub lt fma absolute
+closedTo c from =
+    let s = withSetting (holding 0 1) (Release (f32 100 1) (ofBits binary32 c)) in
+    let m : Registers = record { level = nought; state = ofBits binary32 from; counter = 0 } in
+    toBits binary32 (next s m nought .state)
 
 -- hold 1/16 ms, 50 ms and 0
 unfoldable pub p6 : Row
@@ -102,14 +114,32 @@ unfoldable pub band : String → ℕ
 unfolding bandSaid allDigits behind numberOf afterPlus indexOf same
 band name = bandSaid (indexOf (bytes name))
 
--- the answer to reading that name on a made equaliser at 48,000 Hz
-unfoldable pub answerTo : String → ℕ
+-- the answers to reading that name on a made equaliser at 48,000 Hz, and to setting it to 1 dB; the dB of band 3 after that
+abbrev flat : Equaliser
+flat = made (f32 48000 1)
+
+unfoldable pub readAs : String → ℕ
 unfolding allDigits behind numberOf afterPlus indexOf same States.acceptable Bands.settable Bands.allSettable Bands.bandSettable Bands.inItsRange Bands.isUnity Bands.isPassthrough isRate readFound read bandAt valueAt whole absolute toBits neg f32 f64 le lt
-answerTo name = read (made (f32 48000 1)) (bytes name) .number
+readAs name = read flat (bytes name) .number
+
+unfoldable pub afterSet : String → Told Equaliser
+unfolding allDigits behind numberOf afterPlus indexOf settingAt named same States.acceptable Bands.settable Bands.allSettable Bands.bandSettable Bands.inItsRange Bands.isUnity Bands.isPassthrough Bands.worked Bands.taken Bands.clears isRate setFound setBand set withBand bandAt delayAt valueAt whole absolute toBits neg f32 f64 eq le lt
+afterSet name = set flat (bytes name) (record { 0 = one }) passthrough
+
+unfoldable pub setAs : String → ℕ
+unfolding afterSet
+setAs name = afterSet name .number
+
+unfoldable pub band3Set : String → ℕ
+unfolding afterSet valueAt bandAt toBits
+band3Set name = toBits binary32 (valueAt (afterSet name .state) 3)
 
 unfoldable pub p8 : Row
-unfolding band answerTo
-p8 = record { given = band "band_+3" ∷ answerTo "band_+3" ∷ answerTo "band_16" ∷ answerTo "band_" ∷ []; said = 3 ∷ 0 ∷ 2 ∷ 1 ∷ [] }
+unfolding band readAs setAs band3Set
+p8 = record {
+  given = band "band_+3" ∷ readAs "band_+3" ∷ setAs "band_+3" ∷ band3Set "band_+3" ∷ readAs "band_16" ∷ setAs "band_16" ∷ readAs "band_" ∷ setAs "band_" ∷ [];
+  said = 3 ∷ 0 ∷ 0 ∷ 0x3f80_0000 ∷ 2 ∷ 2 ∷ 1 ∷ 1 ∷ [];
+}
 
 -- ---- P9: the words of the samples that 0.5 and -1 are written as
 unfoldable pub p9 : Row

@@ -41,14 +41,16 @@ module _ (f : Format) where
       record { kept = snap (prec f) n d; is = round-at f s a c n d C D e o; not-above = near .0; not-below = near .1 }
 
   -- ---- `fma` of x, y, z that are not below zero, of a, b and c units
-  module _ (x y z : Float) (a b c : ℕ) (hx : At f x a) (hy : At f y b) (hz : At f z c) where
+  pub record FmaLaws (x y z : Float) (a b c : ℕ) : Type 0 where
     -- it lies between bounds that the format keeps
-    pub fma-at-most : (w : Float) (n : ℕ) → At f w n → Rep (prec f) n → n < overflow f → a * b + c * U f ≤ n * U f → T (le (fma f x y z) w)
-    fma-at-most w n hw r o h = Sizes.fma-le f x y z w a b c n hx hy hz hw r o h
-
-    pub fma-at-least : (w : Float) (n : ℕ) → At f w n → Rep (prec f) n → snap (prec f) (a * b + c * U f) (U f) < overflow f → n * U f ≤ a * b + c * U f → T (le w (fma f x y z))
-    fma-at-least w n hw r o h = Sizes.fma-ge f x y z w a b c n hx hy hz hw r o h
-
+    pub at-most : (w : Float) (n : ℕ) → At f w n → Rep (prec f) n → n < overflow f → a * b + c * U f ≤ n * U f → T (le (fma f x y z) w)
+    pub at-least : (w : Float) (n : ℕ) → At f w n → Rep (prec f) n → snap (prec f) (a * b + c * U f) (U f) < overflow f → n * U f ≤ a * b + c * U f → T (le w (fma f x y z))
     -- it grows with each of the three
-    pub fma-monotone : (x' y' z' : Float) (a' b' c' : ℕ) → At f x' a' → At f y' b' → At f z' c' → snap (prec f) (a' * b' + c' * U f) (U f) < overflow f → a ≤ a' → b ≤ b' → c ≤ c' → T (le (fma f x y z) (fma f x' y' z'))
-    fma-monotone x' y' z' a' b' c' hx' hy' hz' o p q r = Sizes.fma-mono f x x' y y' z z' a a' b b' c c' hx hx' hy hy' hz hz' o p q r
+    pub grows : (x' y' z' : Float) (a' b' c' : ℕ) → At f x' a' → At f y' b' → At f z' c' → snap (prec f) (a' * b' + c' * U f) (U f) < overflow f → a ≤ a' → b ≤ b' → c ≤ c' → T (le (fma f x y z) (fma f x' y' z'))
+
+  pub fma-laws : (x y z : Float) (a b c : ℕ) → At f x a → At f y b → At f z c → FmaLaws x y z a b c
+  fma-laws x y z a b c hx hy hz = record {
+    at-most = λ w n. Sizes.fma-le f x y z w a b c n hx hy hz;
+    at-least = λ w n. Sizes.fma-ge f x y z w a b c n hx hy hz;
+    grows = λ x' y' z' a' b' c' hx' hy' hz'. Sizes.fma-mono f x x' y y' z z' a a' b b' c c' hx hx' hy hy' hz hz';
+  }

@@ -6,15 +6,15 @@ use mathlib.Core.List.{List, [], _∷_}
 use Prim.Native.Nat.{ℕ, _-_}
 use lib.Dec.{T, ltb}
 use lib.Ieee.{Float, le, lt, whole}
-use Rattle.answer.specs.Figures.{f32, nought}
+use Rattle.answer.specs.Figures.{f32}
 use Rattle.answer.specs.Checks.{isRate, isSmoothing}
 use Rattle.noise_gate_sample.specs.Step.{holdSamples, loud, counter, aim, next}
 use Rattle.noise_gate.specs.Calls.{atRest, make}
 use Rattle.silence.specs.History.{carried, Sample, sample}
-use Rattle.silence.specs.Demand3.{Each, leftAt, Promised, Demand3}
+use Rattle.silence.specs.Demand3.{Each, leftAt, Promised, Demand3, SomeMade}
 use Rattle.noise_gate_settings.specs.declared.Settings.{Settings}
 use Rattle.noise_gate_sample.specs.declared.Registers.{Registers}
-use Rattle.silence.proofs.OneSample.{state-moves, quieter}
+use Rattle.silence.proofs.OneSample.{state-moves, gain-in, quieter}
 use Rattle.silence.proofs.Counter.{left, aims, held-aims, aims-held}
 use Rattle.silence.proofs.Along.{Kept, along}
 use Rattle.silence.proofs.Count.{counts, writes}
@@ -51,6 +51,7 @@ kept s m h x a b fx lx k =
       never-falls = v .opens;
       from-0 = v .inside .above;
       to-1 = v .inside .below;
+      gain-to-1 = gain-in s m x a b fx lx .below;
       quieter = quieter s m x a b fx lx;
     } in
     record { counted = counter-is s m x h (k .counted); joined = unfold next in refl; each = (p, k .each) }
@@ -61,7 +62,6 @@ silence rate rising falling f d cs fs =
     let k = along Follows at-first kept rate rising falling f d cs fs in
     record { each = k .inv .each; state = k .inv .joined; count = counts g; written = writes g }
 
--- there is such a gate: one made at 48,000 Hz
-pub some-made : make (f32 48000 1) nought nought .number ≡ 0
+pub some-made : SomeMade
 unfolding make isRate isSmoothing whole le lt f32
 some-made = refl

@@ -59,9 +59,10 @@ pub record Promised (e : Sample) (past : List Sample) : Type 0 where
   pub falls : ¬ T (e .aim) → T (lt (f32 1 (2 ^ 126)) (e .before)) → T (lt (e .state) (e .before))
   pub never-rises : ¬ T (e .aim) → T (le (e .state) (e .before))
   pub never-falls : T (e .aim) → T (le (e .before) (e .state))
-  -- 4. "state stays from 0 to 1, no output is larger in size than its input"
+  -- 4. "state stays from 0 to 1, no output is larger in size than its input"; and document 01: "gain at most 1, rounding included"
   pub from-0 : T (le nought (e .state))
   pub to-1 : T (le (e .state) one)
+  pub gain-to-1 : T (le (e .gain) one)
   pub quieter : T (le (absolute (e .output)) (absolute (e .input)))
 
 abbrev pub Each : (Sample → List Sample → Type 0) → List Sample → Type 0
@@ -91,3 +92,7 @@ abbrev pub Demand3 : Type 0
 Demand3 =
     (rate rising falling : Float) → T (allF32 (rate ∷ rising ∷ falling ∷ [])) → make rate rising falling .number ≡ 0
     → (cs : List Call) → InF32 cs → Silence (make rate rising falling .state) cs
+
+-- and it speaks of something: at 48,000 Hz a gate is made
+abbrev pub SomeMade : Type 0
+SomeMade = make (f32 48000 1) nought nought .number ≡ 0

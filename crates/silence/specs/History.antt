@@ -6,7 +6,7 @@ use Prim.Native.Nat.{ℕ}
 use lib.Dec.{T}
 use lib.Ieee.{Float, binary32, fits}
 use Rattle.answer.specs.Told.{Told}
-use Rattle.noise_gate_sample.specs.Step.{holdSamples, level, aim, state, output, next}
+use Rattle.noise_gate_sample.specs.Step.{holdSamples, level, aim, state, gain, output, next}
 use Rattle.noise_gate.specs.Calls.{setTyped, set, reset, block}
 use Rattle.noise_gate_settings.specs.declared.Settings.{Settings}
 use Rattle.noise_gate_sample.specs.declared.Registers.{Registers}
@@ -32,7 +32,7 @@ unfoldable pub carried : Gate → List Call → Gate
 carried g [] = g
 carried g (c ∷ cs) = carried (answered g c .state) cs
 
--- ---- a sample: the level and the state after it, the state before it, the threshold's factor and the hold in samples then in force, how the gate aims at it, and its output
+-- ---- a sample: the level and the state after it, the state before it, the threshold's factor and the hold in samples then in force, how the gate aims at it, its gain, and its output
 pub record Sample : Type 0 where
   pub input : Float
   pub level : Float
@@ -41,6 +41,7 @@ pub record Sample : Type 0 where
   pub aim : Bool
   pub before : Float
   pub state : Float
+  pub gain : Float
   pub output : Float
 
 unfoldable pub sample : Settings → Registers → Float → Sample
@@ -52,6 +53,7 @@ sample s m x = record {
   aim = aim s m x;
   before = m .state;
   state = state s m x;
+  gain = gain s m x;
   output = output s m x;
 }
 

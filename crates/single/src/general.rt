@@ -143,7 +143,8 @@ fn of_patterns(a: u64, b: u64, c: u64) -> f32
     total(s, SIGN <= c, w)
 }
 
-// a * b + c by whole numbers, where none of the three is a NaN.
+// a * b + c: by whole numbers where all three are finite, else what the infinity or NaN among them
+// gives.
 pub fn whole(a: f32, b: f32, c: f32) -> f32
     ensures { λ r. ⌜ r ≡ fma binary32 a b c ⌝ }
 {

@@ -11,11 +11,12 @@ const PI: f32 = 3.14159265358979323846;
 // The corner of the DC step, in Hz.
 const DC_CORNER: f32 = 20.0;
 
+// Any NaN as the quiet one: at a rate of 0 both sides of the division are infinite.
 fn alpha(rate: f32, f: f32) -> f32
     ensures { λ r. ⌜ r ≡ Alpha.alpha rate f ⌝ }
 {
     let dt = 1.0 / rate;
-    dt / (dt + 1.0 / (2.0 * PI * f))
+    float::settled32(dt / (dt + 1.0 / (2.0 * PI * f)))
 }
 
 pub fn alphas_of(s: Settings) -> Alphas

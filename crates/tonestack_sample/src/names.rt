@@ -34,8 +34,7 @@ pub fn find(name: &[u8], v: f32, w: f32) -> Named
     row(name, b"bass", Named::Known(Setting::Bass(v)), mid)
 }
 
-// The value kept for the setting that t is one of.
-pub fn kept(s: Settings, t: Setting) -> f32
+fn held(s: Settings, t: Setting) -> f32
     ensures { λ r. ⌜ r ≡ Names.kept s t ⌝ }
 {
     match t {
@@ -44,4 +43,11 @@ pub fn kept(s: Settings, t: Setting) -> f32
         Setting::Treble(_) => s.treble,
         Setting::Presence(_, _) => s.presence,
     }
+}
+
+// The value kept for the setting that t is one of, any NaN as the quiet one.
+pub fn kept(s: Settings, t: Setting) -> f32
+    ensures { λ r. ⌜ r ≡ Names.kept s t ⌝ }
+{
+    float::settled32(held(s, t))
 }

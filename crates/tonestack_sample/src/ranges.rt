@@ -1,6 +1,7 @@
 // What a setting may be and what it changes.
 use crate::Setting;
 use crate::Settings;
+use answer::Factor;
 ghost use mathlib.Core.Path.{_≡_};
 ghost use Rattle.tonestack_sample.specs.Ranges as Ranges;
 
@@ -43,6 +44,7 @@ pub fn worked(t: Setting) -> bool
     }
 }
 
+// Any NaN as the quiet one.
 fn clamped(v: f32) -> f32
     ensures { λ r. ⌜ r ≡ Ranges.clamped v ⌝ }
 {
@@ -52,11 +54,11 @@ fn clamped(v: f32) -> f32
     if HIGHEST_CONTROL < v {
         HIGHEST_CONTROL
     } else {
-        v
+        float::settled32(v)
     }
 }
 
-// The settings with t taken.
+// The settings with t taken, its NaNs settled; the others stay as they are.
 pub fn with_setting(s: Settings, t: Setting) -> Settings
     ensures { λ r. ⌜ r ≡ Ranges.withSetting s t ⌝ }
 {
@@ -74,7 +76,8 @@ pub fn with_setting(s: Settings, t: Setting) -> Settings
         }
         Setting::Presence(_, k) => {
             n.presence = v;
-            n.factor = k;
+            let factor = Factor(float::settled32(k.0));
+            n.factor = factor;
         }
     }
     n

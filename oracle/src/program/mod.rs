@@ -27,6 +27,16 @@ fn samples(bytes: &[u8]) -> impl Iterator<Item = i16> {
         .map(|pair| i16::from_le_bytes([pair[0], pair[1]]))
 }
 
+fn aimed_open(bytes: &[u8]) -> u64 {
+    let mut gate = gate();
+    let mut open = 0;
+    for n in samples(bytes) {
+        gate.process(sample::read(n));
+        open += u64::from(gate.aimed_open());
+    }
+    open
+}
+
 pub struct Program;
 
 impl Replay for Program {
@@ -49,17 +59,16 @@ impl Replay for Program {
     }
 
     fn counts(&self, calls: &[u8]) -> Counts {
-        let mut gate = gate();
-        let mut open = 0;
-        for n in samples(calls) {
-            gate.process(sample::read(n));
-            open += u64::from(gate.aimed_open());
-        }
         Counts::from([
             ("samples", calls.len() as u64 / 2),
-            ("of them aimed open", open),
+            ("of them aimed open", aimed_open(calls)),
             ("odd bytes", calls.len() as u64 % 2),
         ])
+    }
+
+    fn said(&self, calls: &[u8]) -> Option<String> {
+        let (count, open) = (samples(calls).count(), aimed_open(calls));
+        Some(format!("gate: {count} samples, {open} aimed open\n"))
     }
 
     fn told(&self, calls: &[u8], answer_byte: usize) -> String {

@@ -1,8 +1,9 @@
 -- `gate::fill` meets its contract. Assumes nothing.
 use Prim.Native.Nat.{_-_, _≤_}
-use mathlib.Core.Path.{_≡_}
+use mathlib.Core.Path.{_≡_, refl}
 use lib.ListN.{length}
 use borrow.Author.Needs.{needs}
+use Rattle.gate.proofs.Runs.{end-more, failed-more}
 use Rattle.gate.proofs.fill.Statement.{statement}
 use Rattle.gate.proofs.fill.Tie as tie
 
@@ -37,7 +38,7 @@ same-length : tie.Need-same-length Inv-loop μ-loop
 same-length c = search needs
 
 returns : tie.Need-returns Inv-loop μ-loop
-returns c = search needs
+returns c = (search needs, λ e. absurd (failed-more _ refl e))
 
 sub-count : tie.Need-sub-count Inv-loop μ-loop
 sub-count c = search needs
@@ -55,7 +56,7 @@ same-length-2 : tie.Need-same-length-2 Inv-loop μ-loop
 same-length-2 c = search needs
 
 returns-2 : tie.Need-returns-2 Inv-loop μ-loop
-returns-2 c = search needs
+returns-2 c = (search needs, λ e. absurd (end-more _ refl e))
 
 add-at : tie.Need-add-at Inv-loop μ-loop
 add-at c = search needs

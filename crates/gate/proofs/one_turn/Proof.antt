@@ -1,7 +1,8 @@
 -- `gate::one_turn` meets its contract. Assumes nothing.
+use mathlib.Core.Logic.{⊎-elim, inl, inr}
 use native.Mathlib.Omega.{arith}
-use lib.ListN.{length-take}
 use borrow.Author.Needs.{needs}
+use Rattle.gate.proofs.Turns.{went}
 use Rattle.gate.proofs.one_turn.Statement.{statement}
 use Rattle.gate.proofs.one_turn.Tie as tie
 
@@ -11,41 +12,19 @@ buffer-requires c κs = search needs
 buffer-requires-2 : tie.Need-buffer-requires-2
 buffer-requires-2 c κs = search needs
 
-slice-aggregate-fill : tie.Need-slice-aggregate-fill
-slice-aggregate-fill c = search needs
+slice-aggregate-block : tie.Need-slice-aggregate-block
+slice-aggregate-block c = search needs
 
-fill-requires : tie.Need-fill-requires
-fill-requires c κs = search needs
+slice-aggregate-block-2 : tie.Need-slice-aggregate-block-2
+slice-aggregate-block-2 c = search needs
 
-array-share-prefix-input : tie.Need-array-share-prefix-input
-array-share-prefix-input c = search needs
-
-slice-aggregate-passed : tie.Need-slice-aggregate-passed
-slice-aggregate-passed c = simp length-take (omega arith)
-
-array-borrow-prefix-output : tie.Need-array-borrow-prefix-output
-array-borrow-prefix-output c = search needs
-
-slice-aggregate-passed-2 : tie.Need-slice-aggregate-passed-2
-slice-aggregate-passed-2 c = simp length-take (omega arith)
-
-passed-requires : tie.Need-passed-requires
-passed-requires c κs = search needs
+block-requires : tie.Need-block-requires
+block-requires c κs = search needs
 
 returns : tie.Need-returns
-returns c = search needs
+returns c =
+    let ran = c .before .before in
+    ⊎-elim (λ s. inl s) (λ o. inr (went _ _ _ _ _ (omega arith) o)) (ran .block .ensures)
 
 pub one-turn-spec : {M : Type 1} → statement M
-one-turn-spec =
-    tie.close
-    (tie.spec
-    buffer-requires
-    buffer-requires-2
-    slice-aggregate-fill
-    fill-requires
-    array-share-prefix-input
-    slice-aggregate-passed
-    array-borrow-prefix-output
-    slice-aggregate-passed-2
-    passed-requires
-    returns)
+one-turn-spec = tie.close (tie.spec buffer-requires buffer-requires-2 slice-aggregate-block slice-aggregate-block-2 block-requires returns)

@@ -43,15 +43,29 @@ passed : (test : Bool) (r : Refusal) (s : List Float) (rest : Told (List Float))
 passed true r s rest e = (refl, e)
 passed false r s rest e = absurd (never-nought r (sym e))
 
+record Passed (drive : Float) (input output : List Float) : Type 0 where
+  lengths : eqb (length input) (length output) ≡ true
+  short : leb (length input) longestBlock ≡ true
+  finite-drive : finite drive ≡ true
+  samples : leb (length input) (firstRefused input) ≡ true
+
 module _ (kind : Kind) (drive : Float) (input output : List Float) (done : block kind drive input output .number ≡ 0) where
-  pub written : (i : ℕ) (d : Float) → i < length input → Written kind drive input output i d
+  passed-all : Passed drive input output
   unfolding block
-  written i d h =
+  passed-all =
       let first = passed (eqb (length input) (length output)) LengthsDiffer output _ done in
       let second = passed (leb (length input) longestBlock) TooLong output _ (first .1) in
       let third = passed (finite drive) OutOfRange output _ (second .1) in
       let fourth = passed (leb (length input) (firstRefused input)) (BadSample (firstRefused input)) output _ (third .1) in
-      let state : block kind drive input output .state ≡ processed kind drive input = rw (first .0, second .0, third .0, fourth .0) in
-      let accepted = accepted-finite (getD input i d) (before-first input i d (lt-of-lt-of-le h (leb-true (length input) (firstRefused input) (fourth .0)))) in
-      let is : getD (block kind drive input output .state) i d ≡ process kind (getD input i d) drive = ap (λ (l : List Float). getD l i d) state ∙ processed-at kind drive input i d h in
-      record { is = is; between = rw is (process-between kind (getD input i d) drive accepted (rw (third .0) tt)) }
+      record { lengths = first .0; short = second .0; finite-drive = third .0; samples = fourth .0 }
+
+  pub done-is : block kind drive input output .state ≡ processed kind drive input
+  unfolding block
+  done-is = let p = passed-all in rw (p .lengths, p .short, p .finite-drive, p .samples)
+
+  pub written : (i : ℕ) (d : Float) → i < length input → Written kind drive input output i d
+  written i d h =
+      let p = passed-all in
+      let accepted = accepted-finite (getD input i d) (before-first input i d (lt-of-lt-of-le h (leb-true (length input) (firstRefused input) (p .samples)))) in
+      let is : getD (block kind drive input output .state) i d ≡ process kind (getD input i d) drive = ap (λ (l : List Float). getD l i d) done-is ∙ processed-at kind drive input i d h in
+      record { is = is; between = rw is (process-between kind (getD input i d) drive accepted (rw (p .finite-drive) tt)) }

@@ -34,7 +34,7 @@ taken-settable value numbers r w = go (isUnity value) refl
     go false e = rw (r, e) w
 
 -- ---- among the others
-both-true : (a b : Bool) → (a && b) ≡ true → (a ≡ true) × (b ≡ true)
+pub both-true : (a b : Bool) → (a && b) ≡ true → (a ≡ true) × (b ≡ true)
 both-true true b h = (refl, h)
 both-true false b h = absurd (true≢false (sym h))
 

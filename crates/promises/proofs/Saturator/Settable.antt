@@ -17,11 +17,11 @@ use Rattle.multiband_saturator_settings.specs.declared.Setting.the-variants.{Dr
 use Rattle.multiband_saturator.specs.Calls.{made}
 
 -- ---- what a test of two says of each
-left : (a b : Bool) → (a && b) ≡ true → a ≡ true
+pub left : (a b : Bool) → (a && b) ≡ true → a ≡ true
 left true b e = refl
 left false b e = e
 
-right : (a b : Bool) → (a && b) ≡ true → b ≡ true
+pub right : (a b : Bool) → (a && b) ≡ true → b ≡ true
 right true b e = e
 right false true e = refl
 right false false e = e
@@ -42,17 +42,17 @@ within highest n High v h e =
     rw (left (inRange nought highest (n .low)) (inRange nought highest (n .mid) && inRange nought highest (n .high)) h, left (inRange nought highest (n .mid)) (inRange nought highest (n .high)) upper, e)
 
 -- ---- the parts of 9's test
-record Parts (s : Settings) : Type 0 where
-  rate : isRate (s .rate) ≡ true
-  drives : eachWithin highestDrive (s .drives) ≡ true
-  levels : eachWithin highestLevel (s .levels) ≡ true
-  low : isFreq frequency.Low (s .frequencies .low) ≡ true
-  high : isFreq frequency.High (s .frequencies .high) ≡ true
-  low-numbers : finiteAll (s .low) ≡ true
-  high-numbers : finiteAll (s .high) ≡ true
-  smoothing : ((isSmoothing (s .attack) && isSmoothing (s .release)) && isSmoothing (s .blocker)) ≡ true
+pub record Parts (s : Settings) : Type 0 where
+  pub rate : isRate (s .rate) ≡ true
+  pub drives : eachWithin highestDrive (s .drives) ≡ true
+  pub levels : eachWithin highestLevel (s .levels) ≡ true
+  pub low : isFreq frequency.Low (s .frequencies .low) ≡ true
+  pub high : isFreq frequency.High (s .frequencies .high) ≡ true
+  pub low-numbers : finiteAll (s .low) ≡ true
+  pub high-numbers : finiteAll (s .high) ≡ true
+  pub smoothing : ((isSmoothing (s .attack) && isSmoothing (s .release)) && isSmoothing (s .blocker)) ≡ true
 
-parts : (s : Settings) → settable s ≡ true → Parts s
+pub parts : (s : Settings) → settable s ≡ true → Parts s
 unfolding settable lent
 parts s h =
     let rate = isRate (s .rate) in

@@ -1,4 +1,4 @@
--- Every number, once clamped, is a control's value; and a setting that is taken leaves settings that could have been set.
+-- Every number, once clamped, is a control's value; and a making that is done and a setting that is taken leave settings that could have been set.
 -- Assumes nothing.
 use mathlib.Core.Path.{_≡_, refl, sym}
 use mathlib.Core.Bool.{Bool, true, false, not, _&&_, cond, true≢false}
@@ -6,11 +6,14 @@ use lib.Dec.{T, leb}
 use lib.Ieee.{Float, nan, inf, fin, lt, le, eq, isNan}
 use Rattle.answer.specs.Figures.{f32, nought}
 use Rattle.answer.specs.Checks.{isRate}
-use Rattle.tonestack_sample.specs.Models.{lastModel}
+use Rattle.common.specs.declared.frequencies.Model.{Model}
+use Rattle.common.specs.declared.frequencies.Model.the-variants.{Modern, British, American, Flat}
+use Rattle.tonestack_sample.specs.Models.{lastModel, numberOf}
 use Rattle.tonestack_sample.specs.Ranges.{highestControl, value, isNumber, worked, clamped, withSetting, isControl, isFactor, settable}
 use Rattle.tonestack_sample.specs.declared.Settings.{Settings}
 use Rattle.tonestack_sample.specs.declared.Setting.{Setting}
 use Rattle.tonestack_sample.specs.declared.Setting.the-variants.{Bass, Mid, Treble, Presence}
+use Rattle.tonestack.specs.Calls.{madeSettings}
 use Rattle.promises.proofs.Order.{not-below as numbers-not-below}
 
 -- ---- a number equals itself, and NaN does not
@@ -56,8 +59,16 @@ clamped-control v number = low (lt v nought) refl
     low true p = lowest-control
     low false p = high (lt highestControl v) refl p
 
+-- ---- a making that is done
+pub made-settable : (model : Model) (rate : Float) → isRate rate ≡ true → settable (madeSettings model rate) ≡ true
+unfolding settable madeSettings numberOf isControl isFactor le lt eq f32
+made-settable Modern rate h = rw h
+made-settable British rate h = rw h
+made-settable American rate h = rw h
+made-settable Flat rate h = rw h
+
 -- ---- a setting that is taken
-split : {a b : Bool} → (a && b) ≡ true → (a ≡ true) × (b ≡ true)
+pub split : {a b : Bool} → (a && b) ≡ true → (a ≡ true) × (b ≡ true)
 split {a = true} h = (refl, h)
 split {a = false} h = absurd (true≢false (sym h))
 

@@ -31,7 +31,7 @@ run-requires c κs =
     let passed = c .before in
     let checked = passed .before .before in
     let fit = accepted-block _ _ (sym (checked .check-block .ensures) ∙ passed .enum-told .given .1) in
-    (fit .agree, fit .few)
+    fit .agree
 
 same-length : tie.Need-same-length
 same-length c = search needs
@@ -39,7 +39,7 @@ same-length c = search needs
 returns-3 : tie.Need-returns-3
 unfolding block checkedBlock
 returns-3 c =
-    let ran = c .before .before .before in
+    let ran = c .before .before .before .before in
     let passed = ran .before .before in
     let checked = passed .before .before in
     let accepted = checked .before in

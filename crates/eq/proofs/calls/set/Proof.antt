@@ -24,13 +24,18 @@ returns-2 c =
     let accepted = found .before in
     c .refused2 .ensures ∙ rw (sym (accepted .before .acceptable .ensures) ∙ not-false _ (accepted .if1 .left), sym (found .find .ensures) ∙ unknown .enum-told .given .1)
 
+put-requires : tie.Need-put-requires
+put-requires c κs =
+    let accepted = c .before .before .before .before in
+    sym (accepted .before .acceptable .ensures) ∙ not-false _ (accepted .if1 .left)
+
 returns-3 : tie.Need-returns-3
 unfolding set setFound
 returns-3 c =
     let known = c .before .before in
     let found = known .before .before in
     let accepted = found .before in
-    rw (sym (accepted .before .acceptable .ensures) ∙ not-false _ (accepted .if1 .left), sym (found .find .ensures) ∙ known .i .given .1) (c .set-band .ensures)
+    rw (sym (accepted .before .acceptable .ensures) ∙ not-false _ (accepted .if1 .left), sym (found .find .ensures) ∙ known .i .given .1) (c .put .ensures)
 
 pub set-spec : {M : Type 1} → statement M
 set-spec =
@@ -44,5 +49,5 @@ set-spec =
     enum-told
     (λ c κs. tt)
     returns-2
-    (λ c κs. tt)
+    put-requires
     returns-3)

@@ -1,37 +1,37 @@
 -- `eq::states::with_band` meets its contract. Assumes nothing.
 use lib.ListN.{length-map}
-use Rattle.eq_bands.proofs.Loop.{band-place, delay-place}
+use borrow.Author.Needs.{needs}
 use Rattle.eq.proofs.OneBand.{band-set}
 use Rattle.eq.proofs.states.with_band.Statement.{statement}
 use Rattle.eq.proofs.states.with_band.Tie as tie
 
 mul-old : tie.Need-mul-old
-mul-old c = record { fits = band-place (c .before .before .before .before .pre) }
+mul-old c = search needs
 
-array-copy-out-old : tie.Need-array-copy-out-old
-array-copy-out-old c = c .before .before .before .before .pre
+element-copy-out-old : tie.Need-element-copy-out-old
+element-copy-out-old c = search needs
 
 mul-d : tie.Need-mul-d
-mul-d c = record { fits = delay-place (c .before .before .before .before .before .before .pre) }
+mul-d c = search needs
 
-array-copy-out-d : tie.Need-array-copy-out-d
-array-copy-out-d c = c .before .before .before .before .before .before .pre
+element-copy-out-d : tie.Need-element-copy-out-d
+element-copy-out-d c = search needs
 
-mul-bands : tie.Need-mul-bands
-mul-bands c = record { fits = band-place (c .before .before .before .before .before .before .before .before .pre) }
+mul-b : tie.Need-mul-b
+mul-b c = search needs
 
-array-set-from-bands : tie.Need-array-set-from-bands
-array-set-from-bands c = c .before .before .before .before .before .before .before .before .pre
+element-set-from-b : tie.Need-element-set-from-b
+element-set-from-b c = search needs
 
-mul-delays : tie.Need-mul-delays
-mul-delays c = record { fits = delay-place (c .before .before .before .before .before .before .before .before .before .before .pre) }
+mul-left : tie.Need-mul-left
+mul-left c = search needs
 
-array-set-from-delays : tie.Need-array-set-from-delays
-array-set-from-delays c = c .before .before .before .before .before .before .before .before .before .before .pre
+element-set-from-left : tie.Need-element-set-from-left
+element-set-from-left c = search needs
 
 returns : tie.Need-returns
 returns c =
-    let start = c .before .before .before .before .before .before .before .before .before .before in
+    let start = c .before .before .before .before .before .before .before .before in
     let bands = simp length-map at (start .good .0 .1 .1 .0 .1 .1 .1 .0 .1 .0 .1) in
     let delays = simp length-map at (start .good .0 .1 .1 .1 .0 .1 .1 .0 .1 .0 .1) in
     band-set _ _ _ _ (rw bands (start .pre)) (rw delays (start .pre)) _ _ (c .before .before .taken .ensures) (rw (c .before .clears .ensures) at (c .cleared .ensures))
@@ -41,14 +41,14 @@ with-band-spec =
     tie.close
     (tie.spec
     mul-old
-    array-copy-out-old
+    element-copy-out-old
     mul-d
-    array-copy-out-d
-    (λ c κs. tt)
-    mul-bands
-    array-set-from-bands
+    element-copy-out-d
     (λ c κs. tt)
     (λ c κs. tt)
-    mul-delays
-    array-set-from-delays
+    (λ c κs. tt)
+    mul-b
+    element-set-from-b
+    mul-left
+    element-set-from-left
     returns)

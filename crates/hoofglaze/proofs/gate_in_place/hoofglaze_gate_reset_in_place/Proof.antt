@@ -1,6 +1,6 @@
 -- `hoofglaze::gate_in_place::hoofglaze_gate_reset_in_place` meets its contract, by a walk of its code.
 -- Written by tools/in_place. Assumes nothing.
-use Rattle.hoofglaze.proofs.InPlace.{refl, [], _∷_, id⊢, _$_, !, move, look, look-raw, init, store-raw, stop, hop, from, load, of-opd, and-then, no-more, assigns, land, returns, enter, alloc1, alloc0, params1, pass1, pass0, free0, tripleOf, cited, after, takes, gives-back, freed, gate-of, answer-of, calls-form, framed, meets}
+use Rattle.hoofglaze.proofs.InPlace.{refl, [], _∷_, id⊢, _$_, !, move, look, look-raw, init, stop, hop, fld, from, load, of-opd, and-then, no-more, assigns, land, returns, enter, alloc1, alloc0, params1, pass1, pass0, free0, whole, sub, store-in, tripleOf, cited, after, unraw, takes, gives-back, freed, settings-of, registers-of, answer-of, calls-form, framed, meets}
 use Rattle.hoofglaze.proofs.gate.hoofglaze_gate_reset as form
 use Rattle.hoofglaze.proofs.gate.hoofglaze_gate_reset.Symbol as symbol
 use Rattle.hoofglaze.proofs.gate.hoofglaze_gate_reset.Symbol.{name as #form}
@@ -28,8 +28,9 @@ hoofglaze-gate-reset-in-place-spec 𝓤 H 𝓜 𝓖 𝓡 =
     (κs .1) (qs .1) (g .now) a tt tt (id⊢ 𝓤 _) (and-then ! (load ! (from ! (stop !)) (look ! 5 refl)) (no-more !)) (λ r ws fit is.
     -- [the tokens; the last values; what the form says; the gate's cell; the open borrow; its two names; the locals]
     land ! (from ! (stop !)) (init ! 9 refl (fit .0)) $
-    assigns ! (gate-of ! 9 r refl refl) (from ! (hop ! (look ! 11 refl) (stop !))) (store-raw ! 3 refl (fit .1)) $
-    assigns ! (answer-of ! 9 r refl refl) (from ! (stop !)) (init ! 13 refl (fit .2)) $
+    assigns ! (settings-of ! 9 r refl refl) (from ! (hop ! (look ! 11 refl) (fld ! refl (stop !)))) (store-in ! 3 (unraw ! (sub ! 0 refl (whole !))) (fit .1)) $
+    assigns ! (registers-of ! 9 r refl refl) (from ! (hop ! (look ! 11 refl) (fld ! refl (stop !)))) (store-in ! 3 (unraw ! (sub ! 1 refl (whole !))) (fit .2)) $
+    assigns ! (answer-of ! 9 r refl refl) (from ! (stop !)) (init ! 13 refl (fit .3)) $
     gives-back ! tt (r .gate) (g .ptr .0) (g .ptr .1) (is .0) $
     -- [the gate's name; the borrow; its token; the tokens; the last values; what the form says; the locals]
     returns ! (look ! 12 refl) $ freed ! 12 refl refl $ freed ! 10 refl refl $ freed ! 8 refl refl $ freed ! 6 refl refl $ free0 ! $

@@ -1,55 +1,16 @@
 -- `noise_gate_settings::names::kept` meets its contract. Assumes nothing.
-use Rattle.noise_gate_settings.specs.Names.{kept}
 use borrow.Author.Needs.{needs}
 use Rattle.noise_gate_settings.proofs.names.kept.Statement.{statement}
 use Rattle.noise_gate_settings.proofs.names.kept.Tie as tie
 
-enum-told : tie.Need-enum-told
-enum-told c = search needs
+held-requires : tie.Need-held-requires
+held-requires c κs = search needs
 
-enum-told-2 : tie.Need-enum-told-2
-enum-told-2 c = search needs
-
-enum-told-3 : tie.Need-enum-told-3
-enum-told-3 c = search needs
-
-enum-told-4 : tie.Need-enum-told-4
-enum-told-4 c = search needs
-
-enum-told-5 : tie.Need-enum-told-5
-enum-told-5 c = search needs
+settled32-requires : tie.Need-settled32-requires
+settled32-requires c κs = search needs
 
 returns : tie.Need-returns
-unfolding kept
-returns c = rw (c .enum-told .given .1)
-
-returns-2 : tie.Need-returns-2
-unfolding kept
-returns-2 c = rw (c .enum-told2 .given .1)
-
-returns-3 : tie.Need-returns-3
-unfolding kept
-returns-3 c = rw (c .enum-told3 .given .1)
-
-returns-4 : tie.Need-returns-4
-unfolding kept
-returns-4 c = rw (c .enum-told4 .given .1)
-
-returns-5 : tie.Need-returns-5
-unfolding kept
-returns-5 c = rw (c .enum-told5 .given .1)
+returns c = rw (c .settled32 .ensures, c .before .held .ensures)
 
 pub kept-spec : {M : Type 1} → statement M
-kept-spec =
-    tie.close
-    (tie.spec
-    enum-told
-    enum-told-2
-    enum-told-3
-    enum-told-4
-    enum-told-5
-    returns
-    returns-2
-    returns-3
-    returns-4
-    returns-5)
+kept-spec = tie.close (tie.spec held-requires settled32-requires returns)

@@ -22,6 +22,9 @@ enum-told-3 c = search needs
 enum-known-t : tie.Need-enum-known-t
 enum-known-t c = search needs
 
+settled32-requires : tie.Need-settled32-requires
+settled32-requires c κs = search needs
+
 returns : tie.Need-returns
 unfolding value withSetting
 returns c = rw (c .before .before .clamped .ensures, c .before .before .before .value .ensures, c .enum-told .given .1)
@@ -36,7 +39,7 @@ returns-3 c = rw (c .before .before .clamped .ensures, c .before .before .before
 
 returns-4 : tie.Need-returns-4
 unfolding value withSetting
-returns-4 c = rw (c .before .before .before .clamped .ensures, c .before .before .before .before .value .ensures, c .before .t .given .1)
+returns-4 c = rw (c .settled32 .ensures, c .before .before .before .before .clamped .ensures, c .before .before .before .before .before .value .ensures, c .before .before .t .given .1)
 
 pub with-setting-spec : {M : Type 1} → statement M
 with-setting-spec =
@@ -48,6 +51,7 @@ with-setting-spec =
     enum-told-2
     enum-told-3
     enum-known-t
+    settled32-requires
     returns
     returns-2
     returns-3

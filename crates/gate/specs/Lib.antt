@@ -1,0 +1,2 @@
+-- The program: what a turn and a run of turns leave.
+pub mod Runs

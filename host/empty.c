@@ -1,0 +1,81 @@
+/* Checks of buffers and names of length 0 whose pointer is null, as an empty vector's may be: every call
+ * that takes one is made with it, and would end the program if it read there. */
+#include "eq.h"
+
+static const hoofglaze_eq_numbers five = {1, 0.5, 0.25, 0.125, 0.0625};
+static const hoofglaze_saturator_crossover ten;
+
+/* An empty block is done: no count, and the state as it was. */
+static void done_and_same(const char *call, hoofglaze_answer a, const void *given, const void *said,
+                          size_t bytes)
+{
+    check_answer(call, a, 0, 0, 0, 0);
+    check(call, memcmp(given, said, bytes), 0, 0, 0, 0);
+}
+
+static void no_setting(const char *call, hoofglaze_answer a)
+{
+    check_answer(call, a, 1, 0, 0, 0);
+}
+
+static void gate(void)
+{
+    hoofglaze_gate g = hoofglaze_gate_make(48000, 0.5f, 0.5f).gate, lying = g;
+    hoofglaze_gate_answered a = hoofglaze_gate_block(g, 0, 0, 0, 0);
+    done_and_same("gate_block", a.answer, &a.gate.settings, &g.settings, sizeof g.settings);
+    done_and_same("gate_block", a.answer, &a.gate.registers, &g.registers, sizeof g.registers);
+    check_answer("gate_block_in_place", hoofglaze_gate_block_in_place(&lying, 0, 0, 0, 0), 0, 0, 0, 0);
+    check_answer("gate_block", hoofglaze_gate_block(g, 0, 0, output, 1).answer, 7, 0, 0, 0);
+    check_answer("gate_block", hoofglaze_gate_block(g, input, 1, 0, 0).answer, 7, 0, 0, 0);
+    no_setting("gate_set", hoofglaze_gate_set(g, 0, 0, 1, 0).answer);
+    no_setting("gate_set_in_place", hoofglaze_gate_set_in_place(&lying, 0, 0, 1, 0));
+    no_setting("gate_read", hoofglaze_gate_read(g, 0, 0));
+}
+
+static void clipper(void)
+{
+    check_answer("clip_hard", hoofglaze_clip_hard(1, 0, 0, 0, 0), 0, 0, 0, 0);
+    check_answer("clip_triode", hoofglaze_clip_triode(1, 0, 0, 0, 0), 0, 0, 0, 0);
+    check_answer("clip_hard", hoofglaze_clip_hard(1, 0, 0, output, 1), 7, 0, 0, 0);
+    check_answer("clip_triode", hoofglaze_clip_triode(1, input, 1, 0, 0), 7, 0, 0, 0);
+}
+
+static void eq(void)
+{
+    hoofglaze_eq e = hoofglaze_eq_make(48000).equaliser;
+    hoofglaze_eq_answered a = hoofglaze_eq_block(e, 0, 0, 0, 0);
+    check_call(&equaliser, "eq_block", a.answer, &a.equaliser, 0, &e);
+    check_answer("eq_block", hoofglaze_eq_block(e, 0, 0, output, 1).answer, 7, 0, 0, 0);
+    no_setting("eq_set", hoofglaze_eq_set(e, 0, 0, (hoofglaze_decibels){1}, five).answer);
+    no_setting("eq_read", hoofglaze_eq_read(e, 0, 0));
+}
+
+static void tone(void)
+{
+    hoofglaze_tone t = hoofglaze_tone_make_british(48000).tone;
+    hoofglaze_tone_answered a = hoofglaze_tone_block(t, 0, 0, 0, 0);
+    done_and_same("tone_block", a.answer, &a.tone, &t, sizeof t);
+    check_answer("tone_block", hoofglaze_tone_block(t, input, 1, 0, 0).answer, 7, 0, 0, 0);
+    no_setting("tone_set", hoofglaze_tone_set(t, 0, 0, 1, 1).answer);
+    no_setting("tone_read", hoofglaze_tone_read(t, 0, 0));
+}
+
+static void saturator(void)
+{
+    hoofglaze_saturator s = hoofglaze_saturator_make(48000, ten, ten, 0.5f, 0.5f, 0.5f).saturator;
+    hoofglaze_saturator_answered a = hoofglaze_saturator_block(s, 0, 0, 0, 0);
+    done_and_same("saturator_block", a.answer, &a.saturator, &s, sizeof s);
+    check_answer("saturator_block", hoofglaze_saturator_block(s, 0, 0, output, 1).answer, 7, 0, 0, 0);
+    no_setting("saturator_set", hoofglaze_saturator_set(s, 0, 0, 1, ten).answer);
+    no_setting("saturator_read", hoofglaze_saturator_read(s, 0, 0));
+}
+
+void empty_checks(void)
+{
+    group("a null pointer with length 0, for each buffer and each name");
+    gate();
+    clipper();
+    eq();
+    tone();
+    saturator();
+}
