@@ -1,6 +1,7 @@
 /* Checks of buffers and names of length 0 whose pointer is null, as an empty vector's may be: every call
  * that takes one is made with it, and would end the program if it read there. */
 #include "eq.h"
+#include "wave.h"
 
 static const hoofglaze_eq_numbers five = {1, 0.5, 0.25, 0.125, 0.0625};
 static const hoofglaze_saturator_crossover ten;
@@ -78,4 +79,5 @@ void empty_checks(void)
     eq();
     tone();
     saturator();
+    check_wave("wave_read", hoofglaze_wave_read(0, 0), (hoofglaze_wave){.number = 10}, 0, 0);
 }

@@ -3,10 +3,10 @@
  * Every call takes any numbers at all, and any bits in a state. A pointer must be good for the length
  * beside it; where that is 0 it is never read or written and may be null, as an empty vector's. The
  * buffers of one call, its name and its gate must not overlap. Lengths count samples, and bytes for a
- * name, which needs no 0 at its end. The float environment must be the default one, as a program starts
- * with it: a thread that rounds another way, or has subnormals flushed to zero, gets other bits. The
- * library keeps nothing from call to call and allocates nothing: threads may call it at once, each with
- * states and buffers of its own. */
+ * recording and for a name, which needs no 0 at its end. The float environment must be the default one, as a
+ * program starts with it: a thread that rounds another way, or has subnormals flushed to zero, gets other
+ * bits. The library keeps nothing from call to call and allocates nothing: threads may call it at once, each
+ * with states and buffers of its own. */
 #ifndef HOOFGLAZE_H
 #define HOOFGLAZE_H
 
@@ -14,7 +14,7 @@
 #include <stdint.h>
 
 /* Grows by one with each release that a host can tell from the one before; docs/RELEASES.md says how. */
-#define HOOFGLAZE_VERSION 1
+#define HOOFGLAZE_VERSION 2
 
 #ifdef __cplusplus
 extern "C" {
@@ -31,7 +31,8 @@ enum {
     HOOFGLAZE_STACK_CLIP = 1280,
     HOOFGLAZE_STACK_EQ = 6144,
     HOOFGLAZE_STACK_TONE = 512,
-    HOOFGLAZE_STACK_SATURATOR = 2304
+    HOOFGLAZE_STACK_SATURATOR = 2304,
+    HOOFGLAZE_STACK_WAVE = 256
 };
 
 /* ---- Float arithmetic (IEEE 754)
@@ -469,6 +470,44 @@ hoofglaze_saturator_answered hoofglaze_saturator_reset(hoofglaze_saturator s);
 /* A block of samples from one buffer into another: 9, 7, 8, 6. An empty block is done. */
 hoofglaze_saturator_answered hoofglaze_saturator_block(hoofglaze_saturator s, const float *input,
                                                        size_t samples, float *output, size_t places);
+
+/* ---- Recordings
+ *
+ * A RIFF WAVE file that lies whole in a buffer, PCM of 16 bits and one channel: where its samples are, and at
+ * which rate. Nothing is copied and nothing is written.
+ *
+ * The file's chunks are gone through from byte 12 on, up to the RIFF size plus 8 or to the buffer's end,
+ * whichever is first: no byte behind that is looked at, and a RIFF size that is too large does no harm. The
+ * first `fmt ` gives the format and the first `data` the samples, which ends the search. What is in any other
+ * chunk, a later `fmt ` too, is passed over, with the pad byte behind an odd size.
+ *
+ * 0 done
+ * 10 no RIFF WAVE file: it doesn't begin as one, is shorter than 12 bytes, or its RIFF size is below 4
+ * 11 cut short, or a size in it is wrong: a chunk, its head or its pad byte runs past that end (the pad byte
+ *    of `data` isn't looked at)
+ * 12 no samples to be found: no `data`, or no `fmt ` before it
+ * 13 not 16-bit PCM of one channel, or not said so by a `fmt ` of 16 bytes with tag 1: the `fmt ` isn't 16
+ *    bytes long, the tag isn't 1 (float and extensible files have another), the channels aren't 1, the bits
+ *    16, the block align 2 or the byte rate twice the rate
+ * 5 sample rate isn't from 8,000 to 192,000
+ * 14 an odd number of bytes of samples
+ *
+ * The first fault in the file is the answer, and at one chunk the first of 11, 12, 13, 5, 14: a bad `fmt ` is
+ * 13 or 5 whatever comes behind it.
+ *
+ * A recorder that lost power may have left 0 for the size of `data`: that reads as an empty recording and is
+ * done, whatever lies behind it. */
+typedef struct {
+    uint32_t number; /* 0 done, or what it is refused by: then the other three are 0 */
+    uint32_t rate;   /* in Hz; a stage takes it as (float)rate, which is the same number */
+    uint64_t place;  /* of the samples: bytes from the buffer's start to the first; even */
+    uint64_t length; /* of the samples in bytes; even */
+} hoofglaze_wave;
+
+/* Where the samples of a file of so many bytes lie, whatever the bytes are: .length / 2 samples from
+ * file + .place on, each two bytes, the lower first, signed. .place + .length is at most `bytes`, and at most
+ * the RIFF size plus 8. Where .length is 0, .place may be `bytes`. */
+hoofglaze_wave hoofglaze_wave_read(const uint8_t *file, size_t bytes);
 
 #ifdef __cplusplus
 }

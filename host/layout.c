@@ -2,8 +2,10 @@
  * calls give, and that they are handed back. */
 #include "checks.h"
 #include "hoofglaze.h"
+#include "wave_bytes.h"
 
 _Static_assert(sizeof(hoofglaze_answer) == 24, "an answer");
+_Static_assert(sizeof(hoofglaze_wave) == 24, "a recording");
 _Static_assert(sizeof(hoofglaze_follower) == 12 && sizeof(hoofglaze_follower_answered) == 40, "a follower");
 _Static_assert(sizeof(hoofglaze_blocker) == 12 && sizeof(hoofglaze_blocker_answered) == 40, "a blocker");
 _Static_assert(sizeof(hoofglaze_decibels) == 4 && sizeof(hoofglaze_factor) == 4, "a float each");
@@ -104,10 +106,27 @@ static void gate_handed_back(void)
     check_floats("gate_block_in_place", &g, 12, settings + 3, 8);
 }
 
+static void recording(void)
+{
+    hoofglaze_wave w;
+    memset(&w, 0xaa, sizeof w);
+    w = hoofglaze_wave_read(FILE_OF(GOOD, SAMPLES));
+    check("wave_read", word_at(&w, 0), 0, 0, 0, 0);
+    check("wave_read", word_at(&w, 4), 48000, 4, 0, 0);
+    check("wave_read", long_at(&w, 8), 44, 8, 0, 0);
+    check("wave_read", long_at(&w, 16), 6, 16, 0, 0);
+    w = hoofglaze_wave_read((const uint8_t[]){RIFF(42)}, 11);
+    check("wave_read", word_at(&w, 0), 10, 0, 0, 0);
+    check("wave_read", word_at(&w, 4), 0, 4, 0, 0);
+    check("wave_read", long_at(&w, 8), 0, 8, 0, 0);
+    check("wave_read", long_at(&w, 16), 0, 16, 0, 0);
+}
+
 void layout_checks(void)
 {
     group("layout: numbers where the header has them");
     lone();
     gate_given();
     gate_handed_back();
+    recording();
 }

@@ -10,6 +10,7 @@ void clipper_checks(void);
 void eq_checks(void);
 void tonestack_checks(void);
 void saturator_checks(void);
+void wave_checks(void);
 void layout_checks(void);
 void padding_checks(void);
 void empty_checks(void);
@@ -26,6 +27,7 @@ int main(int count, char **words)
     eq_checks();
     tonestack_checks();
     saturator_checks();
+    wave_checks();
     layout_checks();
     padding_checks();
     empty_checks();

@@ -7,9 +7,12 @@
 #include <pthread.h>
 
 #include "stage.h"
+#include "wave.h"
 
 /* The smallest stack that a thread may have; what a call takes beyond it is seen too. */
 enum { SMALL = 16384, BEYOND = 32768, WORD = sizeof(uint64_t) };
+
+enum { DRAWN_FILES = 1000 };
 
 #define PAINT 0xa5c3a5c3a5c3a5c3u
 
@@ -47,6 +50,8 @@ static float rate, value, worked, small[3];
 static double large[3];
 static const char *name = "";
 static size_t bytes, band, samples, places;
+static uint8_t file[LONGEST_FILE];
+static size_t file_bytes;
 
 #define RUN(f, stage, laid, ...)                                                                           \
     static void run_##f(void)                                                                              \
@@ -55,6 +60,7 @@ static size_t bytes, band, samples, places;
     }
 SETTINGS(RUN)
 BLOCKS(RUN)
+RECORDINGS(RUN)
 
 struct call {
     const char *name;
@@ -66,6 +72,7 @@ struct call {
 #define ROW(f, stage, laid, ...) {#f, HOOFGLAZE_STACK_##stage, laid, run_##f, 0},
 static struct call settings[] = {SETTINGS(ROW)};
 static struct call blocks[] = {BLOCKS(ROW)};
+static struct call recordings[] = {RECORDINGS(ROW)};
 
 /* ---- how much a call takes */
 
@@ -166,6 +173,10 @@ static void *on_small_stack(void *unused)
             try_block(1, 1, 0, good, model);
             try_block(0, 0, 0, good, model);
         }
+    for (int i = 0; i < DRAWN_FILES; i++) {
+        file_bytes = draw_file(file);
+        measure_all(recordings, COUNT(recordings));
+    }
     return unused;
 }
 
@@ -204,10 +215,12 @@ void stack_checks(void)
     check_states();
     call_once(settings, COUNT(settings));
     call_once(blocks, COUNT(blocks));
+    call_once(recordings, COUNT(recordings));
     int no = pthread_attr_init(&attributes);
     no |= pthread_attr_setstack(&attributes, memory + BEYOND / WORD, SMALL);
     no |= pthread_create(&thread, &attributes, on_small_stack, 0) || pthread_join(thread, 0);
     check("a thread with a small stack", no, 0, SMALL, 0, 0);
     check_all(settings, COUNT(settings));
     check_all(blocks, COUNT(blocks));
+    check_all(recordings, COUNT(recordings));
 }

@@ -84,4 +84,6 @@
     X(hoofglaze_tone_block, TONE, TONE_BYTES, tone, BUFFERS)                                               \
     X(hoofglaze_saturator_block, SATURATOR, SATURATOR_BYTES, saturator, BUFFERS)
 
+#define RECORDINGS(X) X(hoofglaze_wave_read, WAVE, 0, file, file_bytes)
+
 #endif

@@ -1,5 +1,6 @@
 /* What C's <signal.h> has that this project uses, for a compiler that comes without C's headers. */
 #define SIGTRAP 5
+#define SIGSEGV 11
 #define SIGPIPE 13
 #define SIG_DFL ((void (*)(int))0)
 #define SIG_IGN ((void (*)(int))1)

@@ -16,6 +16,7 @@ static const struct {
     {"eq", eq_next},
     {"tonestack", tone_next},
     {"multiband_saturator", saturator_next},
+    {"wave", wave_next},
 };
 
 int take(void *to, size_t bytes)
@@ -52,6 +53,6 @@ int main(int count, char **words)
     for (unsigned i = 0; count == 2 && i < sizeof stages / sizeof *stages; i++)
         if (strcmp(words[1], stages[i].name) == 0)
             return replayed(stages[i].next);
-    failed("it takes a stage: float, common, clipper, noise_gate, eq, tonestack, multiband_saturator");
+    failed("it takes a stage: float, common, clipper, noise_gate, eq, tonestack, multiband_saturator, wave");
     return 2;
 }

@@ -14,6 +14,7 @@ int gate_next(void);
 int eq_next(void);
 int tone_next(void);
 int saturator_next(void);
+int wave_next(void);
 
 /* Whether so many bytes were there to be read. */
 int take(void *to, size_t bytes);

@@ -1,7 +1,8 @@
 //! The oracle: what the stages answer, from the Rust as it stands and from document 01.
 //!
 //! Each stage that has lists has a module here, with a model written from document 01, the Rust stage with
-//! worked numbers lent, and a generator of call lists; [`stages::named`] finds it.
+//! worked numbers lent, and a generator of call lists; [`stages::named`] finds it. The reader of WAVE files has
+//! a model written from document 02 alone.
 pub mod bits;
 pub mod calls;
 pub mod clipper;
@@ -22,3 +23,4 @@ pub mod shapes;
 pub mod signals;
 pub mod stages;
 pub mod tonestack;
+pub mod wave;

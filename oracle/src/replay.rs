@@ -46,6 +46,11 @@ pub const fn answered(number: u32) -> &'static str {
         7 => "answered 7",
         8 => "answered 8",
         9 => "answered 9",
+        10 => "answered 10",
+        11 => "answered 11",
+        12 => "answered 12",
+        13 => "answered 13",
+        14 => "answered 14",
         _ => "answered by all ones",
     }
 }

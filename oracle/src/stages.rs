@@ -2,7 +2,7 @@
 //! `oracle/lists/NAME.calls`.
 use crate::{
     clipper::Clipper, common::Common, eq::Eq, float::Float, gate::NoiseGate, program::Program,
-    replay::Replay, saturator::MultibandSaturator, tonestack::ToneStack,
+    replay::Replay, saturator::MultibandSaturator, tonestack::ToneStack, wave::Wave,
 };
 
 pub fn named(name: &str) -> Option<&'static dyn Replay> {
@@ -15,6 +15,7 @@ pub fn named(name: &str) -> Option<&'static dyn Replay> {
         "tonestack" => Some(&ToneStack::NEW),
         "multiband_saturator" => Some(&MultibandSaturator::NEW),
         "program" => Some(&Program),
+        "wave" => Some(&Wave),
         _ => None,
     }
 }

@@ -6,5 +6,6 @@ pub mod equalise;
 pub mod gate;
 pub mod gate_in_place;
 pub mod lone;
+pub mod recording;
 pub mod saturator;
 pub mod tone;

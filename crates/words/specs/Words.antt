@@ -1,8 +1,8 @@
--- Words of two and four bytes in a list of bytes, the lowest byte first. Definitions only.
+-- Words of two and four bytes in a list of bytes, the lowest byte first; and a number's bytes. Definitions only.
 -- Assumes nothing.
 use Prim.Native.Nat.{ℕ, _+_, _*_, _/_, _%_}
 use mathlib.Core.Bool.{cond}
-use mathlib.Core.List.{List}
+use mathlib.Core.List.{List, [], _∷_, _++_}
 use lib.Dec.{leb}
 use lib.ListN.{length, getD, set}
 
@@ -39,3 +39,10 @@ put16At s at n = cond (leb (at + 2) (length s)) (put16 s at n) s
 unfoldable pub put32At : List ℕ → ℕ → ℕ → List ℕ
 unfolding put32
 put32At s at n = cond (leb (at + 4) (length s)) (put32 s at n) s
+
+-- ---- a number's bytes, below 2^16 and below 2^32
+abbrev pub le16 : ℕ → List ℕ
+le16 n = n % 0x100 ∷ n / 0x100 ∷ []
+
+abbrev pub le32 : ℕ → List ℕ
+le32 n = le16 (n % 0x1_0000) ++ le16 (n / 0x1_0000)
