@@ -13,7 +13,7 @@ function line(title, row) {
 
 END {
     readings = 4096
-    printf "\n%-32s%10s%10s\n", "instructions a recording", "library", "in C"
+    printf "\n%-32s%10s%10s\n", "instructions a recording read", "library", "in C"
     line("a head of 44 bytes", "plain")
     line("100 chunks more, skipped", "chunks")
 }

@@ -1,7 +1,8 @@
 /* Checks of buffers and names of length 0 whose pointer is null, as an empty vector's may be: every call
  * that takes one is made with it, and would end the program if it read there. */
 #include "eq.h"
-#include "wave.h"
+#include "wave_bytes.h"
+#include "wave_write.h"
 
 static const hoofglaze_eq_numbers five = {1, 0.5, 0.25, 0.125, 0.0625};
 static const hoofglaze_saturator_crossover ten;
@@ -71,6 +72,18 @@ static void saturator(void)
     no_setting("saturator_read", hoofglaze_saturator_read(s, 0, 0));
 }
 
+static void recordings(void)
+{
+    static const uint8_t none[] = {RIFF(36), GOOD, HEAD("data", 0)}, two[2];
+    const hoofglaze_written done = {0, 44}, no_room = {15, 0};
+    uint8_t file[sizeof none];
+    check_wave("wave_read", hoofglaze_wave_read(0, 0), (hoofglaze_wave){.number = 10}, 0, 0);
+    check_written("wave_write", hoofglaze_wave_write(48000, 0, 0, file, 44), done, 0, 44);
+    check("wave_write", same_bytes(file, none, sizeof none), sizeof none, 0, 44, 2);
+    check_written("wave_write", hoofglaze_wave_write(48000, 0, 0, 0, 0), no_room, 0, 0);
+    check_written("wave_write", hoofglaze_wave_write(48000, two, 2, 0, 0), no_room, 2, 0);
+}
+
 void empty_checks(void)
 {
     group("a null pointer with length 0, for each buffer and each name");
@@ -79,5 +92,5 @@ void empty_checks(void)
     eq();
     tone();
     saturator();
-    check_wave("wave_read", hoofglaze_wave_read(0, 0), (hoofglaze_wave){.number = 10}, 0, 0);
+    recordings();
 }

@@ -14,7 +14,7 @@
 #include <stdint.h>
 
 /* Grows by one with each release that a host can tell from the one before; docs/RELEASES.md says how. */
-#define HOOFGLAZE_VERSION 2
+#define HOOFGLAZE_VERSION 3
 
 #ifdef __cplusplus
 extern "C" {
@@ -473,13 +473,14 @@ hoofglaze_saturator_answered hoofglaze_saturator_block(hoofglaze_saturator s, co
 
 /* ---- Recordings
  *
- * A RIFF WAVE file that lies whole in a buffer, PCM of 16 bits and one channel: where its samples are, and at
- * which rate. Nothing is copied and nothing is written.
+ * A RIFF WAVE file that lies whole in a buffer, PCM of 16 bits and one channel. Reading it says where its
+ * samples are, and at which rate: nothing is copied and nothing is written. Writing makes such a file of
+ * samples, in another buffer.
  *
- * The file's chunks are gone through from byte 12 on, up to the RIFF size plus 8 or to the buffer's end,
- * whichever is first: no byte behind that is looked at, and a RIFF size that is too large does no harm. The
- * first `fmt ` gives the format and the first `data` the samples, which ends the search. What is in any other
- * chunk, a later `fmt ` too, is passed over, with the pad byte behind an odd size.
+ * The chunks of a file that is read are gone through from byte 12 on, up to the RIFF size plus 8 or to the
+ * buffer's end, whichever is first: no byte behind that is looked at, and a RIFF size that is too large does
+ * no harm. The first `fmt ` gives the format and the first `data` the samples, which ends the search. What is
+ * in any other chunk, a later `fmt ` too, is passed over, with the pad byte behind an odd size.
  *
  * 0 done
  * 10 no RIFF WAVE file: it doesn't begin as one, is shorter than 12 bytes, or its RIFF size is below 4
@@ -491,9 +492,13 @@ hoofglaze_saturator_answered hoofglaze_saturator_block(hoofglaze_saturator s, co
  *    16, the block align 2 or the byte rate twice the rate
  * 5 sample rate isn't from 8,000 to 192,000
  * 14 an odd number of bytes of samples
+ * 15 less room than the file takes
+ * 17 more than 1,048,576 bytes of samples
  *
- * The first fault in the file is the answer, and at one chunk the first of 11, 12, 13, 5, 14: a bad `fmt ` is
- * 13 or 5 whatever comes behind it.
+ * Reading is refused by 10 to 14 and 5, writing by 5, 14, 15 and 17.
+ *
+ * Of a file that is read the first fault is the answer, and at one chunk the first of 11, 12, 13, 5, 14: a
+ * bad `fmt ` is 13 or 5 whatever comes behind it.
  *
  * A recorder that lost power may have left 0 for the size of `data`: that reads as an empty recording and is
  * done, whatever lies behind it. */
@@ -508,6 +513,31 @@ typedef struct {
  * file + .place on, each two bytes, the lower first, signed. .place + .length is at most `bytes`, and at most
  * the RIFF size plus 8. Where .length is 0, .place may be `bytes`. */
 hoofglaze_wave hoofglaze_wave_read(const uint8_t *file, size_t bytes);
+
+/* A written file of n bytes of samples is a head of 44 bytes and the samples behind it; its numbers have the
+ * lowest byte first.
+ *
+ *   at  0  `RIFF`, 36 + n in four bytes, `WAVE`
+ *   at 12  `fmt `, 16 in four, 1 in two, 1 in two, rate in four, 2 * rate in four, 2 in two, 16 in two
+ *   at 36  `data`, n in four
+ *   at 44  the samples as they are: two bytes each, the lower first, signed
+ *
+ * Read again, it gives the rate, place 44 and the same samples, whatever lies behind it in the buffer.
+ *
+ * What was read from a file is written again as the same bytes where its place is 44, nothing lies behind its
+ * samples and its RIFF size is 36 + .length. Where it had other chunks or bytes behind its samples, it comes
+ * out shorter, without them. Where only its RIFF size is another, which is then too large, no other byte
+ * differs. More than 1,048,576 bytes of samples can be read and not written. */
+typedef struct {
+    uint32_t number; /* 0 done, or what it is refused by: then length is 0 */
+    uint32_t length; /* of the file in bytes: 44 + n */
+} hoofglaze_written;
+
+/* Writes so many bytes of samples as a file at the start of the output, whose room must be 44 + `bytes` or
+ * more: 5, 14, 17, 15. An empty recording is done: a file of 44 bytes. What lies behind the file stays as it
+ * was; where the call is refused, all of the output does. */
+hoofglaze_written hoofglaze_wave_write(uint32_t rate, const uint8_t *samples, size_t bytes, uint8_t *output,
+                                       size_t room);
 
 #ifdef __cplusplus
 }

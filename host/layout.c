@@ -6,6 +6,7 @@
 
 _Static_assert(sizeof(hoofglaze_answer) == 24, "an answer");
 _Static_assert(sizeof(hoofglaze_wave) == 24, "a recording");
+_Static_assert(sizeof(hoofglaze_written) == 8, "a recording that is written");
 _Static_assert(sizeof(hoofglaze_follower) == 12 && sizeof(hoofglaze_follower_answered) == 40, "a follower");
 _Static_assert(sizeof(hoofglaze_blocker) == 12 && sizeof(hoofglaze_blocker_answered) == 40, "a blocker");
 _Static_assert(sizeof(hoofglaze_decibels) == 4 && sizeof(hoofglaze_factor) == 4, "a float each");
@@ -122,6 +123,19 @@ static void recording(void)
     check("wave_read", long_at(&w, 16), 0, 16, 0, 0);
 }
 
+static void recording_written(void)
+{
+    uint8_t file[50];
+    hoofglaze_written w;
+    memset(&w, 0xaa, sizeof w);
+    w = hoofglaze_wave_write(48000, (const uint8_t[]){SIX}, 6, file, sizeof file);
+    check("wave_write", word_at(&w, 0), 0, 0, 0, 0);
+    check("wave_write", word_at(&w, 4), 50, 4, 0, 0);
+    w = hoofglaze_wave_write(48000, (const uint8_t[]){SIX}, 5, file, sizeof file);
+    check("wave_write", word_at(&w, 0), 14, 0, 0, 0);
+    check("wave_write", word_at(&w, 4), 0, 4, 0, 0);
+}
+
 void layout_checks(void)
 {
     group("layout: numbers where the header has them");
@@ -129,4 +143,5 @@ void layout_checks(void)
     gate_given();
     gate_handed_back();
     recording();
+    recording_written();
 }

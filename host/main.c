@@ -11,6 +11,7 @@ void eq_checks(void);
 void tonestack_checks(void);
 void saturator_checks(void);
 void wave_checks(void);
+void write_checks(void);
 void layout_checks(void);
 void padding_checks(void);
 void empty_checks(void);
@@ -28,6 +29,7 @@ int main(int count, char **words)
     tonestack_checks();
     saturator_checks();
     wave_checks();
+    write_checks();
     layout_checks();
     padding_checks();
     empty_checks();

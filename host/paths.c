@@ -5,8 +5,7 @@
 #include <signal.h>
 
 #include "eq.h"
-#include "steps/wave.h"
-#include "wave.h"
+#include "paths.h"
 
 #define NAME(text) (const uint8_t *)text, sizeof text - 1
 
@@ -32,22 +31,6 @@ static void count_steps(void)
     check("a stack apart", sigaltstack(&stack, 0) | sigaction(SIGTRAP, &action, 0), 0, 0, 0, 0);
 }
 
-/* The trap flag, set or cleared, past what a function may keep below its stack. */
-#define TRAP(change)                                                                                        \
-    __asm__ volatile("lea -128(%%rsp), %%rsp\n\tpushfq\n\t" change "\n\tpopfq\n\tlea 128(%%rsp), %%rsp" \
-                     :                                                                                      \
-                     :                                                                                      \
-                     : "memory", "cc")
-
-/* The call, with each fill of the stack. */
-#define SAME(call)                    \
-    for (begin(#call); again();) {    \
-        fill_below();                 \
-        TRAP("orq $0x100, (%%rsp)");  \
-        call;                         \
-        TRAP("andq $~0x100, (%%rsp)"); \
-    }
-
 static const char *called;
 static unsigned long first;
 static int turn;
@@ -55,15 +38,14 @@ static int turn;
 /* A block of which one sample is refused. */
 static float loud[BLOCK];
 
-__attribute__((noinline)) static void begin(const char *call)
+void path_begin(const char *call)
 {
     called = call;
     turn = -2;
 }
 
-/* Checks the steps that were taken, and goes on to the next fill. The turn before the first only lets the
- * loader find what the call uses. */
-__attribute__((noinline)) static int again(void)
+/* The turn before the first only lets the loader find what the call uses. */
+int path_again(void)
 {
     if (turn == 0) {
         first = steps;
@@ -75,7 +57,7 @@ __attribute__((noinline)) static int again(void)
     return ++turn < COUNT(fills);
 }
 
-__attribute__((noinline)) static void fill_below(void)
+void path_fill(void)
 {
     uint8_t below[BELOW];
     memset(below, fills[turn < 0 ? 0 : turn], sizeof below);
@@ -90,7 +72,6 @@ static hoofglaze_tone_answered toned;
 static hoofglaze_saturator_answered saturated;
 static hoofglaze_follower_answered followed;
 static hoofglaze_blocker_answered blocked;
-static hoofglaze_wave waved;
 
 /* Each call that is done, and one for each way through it that a refusal takes. */
 
@@ -250,25 +231,6 @@ static void lone(hoofglaze_follower f, hoofglaze_blocker b)
     SAME(blocked = hoofglaze_blocker_reset(worse));
 }
 
-static int begins_as_wave(const uint8_t *file, size_t length)
-{
-    return length >= 12 && is_named(file, "RIFF") && is_named(file + 8, "WAVE");
-}
-
-/* Files of each answer; to refuse another name takes too few steps to tell. */
-static void recordings(void)
-{
-    static const uint32_t numbers[] = {0, 5, 10, 11, 12, 13, 14};
-    static uint8_t file[LONGEST_FILE];
-    for (int i = 0; i < 3 * COUNT(numbers); i++) {
-        size_t length;
-        do
-            length = draw_file(file);
-        while (!begins_as_wave(file, length) || wave_read(file, length).number != numbers[i / 3]);
-        SAME(waved = hoofglaze_wave_read(file, length));
-    }
-}
-
 void path_checks(void)
 {
     static const hoofglaze_saturator_crossover none;
@@ -288,6 +250,6 @@ void path_checks(void)
     tone(t, hoofglaze_tone_make_flat(0).tone);
     saturator(s, hoofglaze_saturator_make(0, none, none, 0, 0, 0).saturator);
     lone(hoofglaze_follower_make(0.5f, 0.5f).follower, hoofglaze_blocker_make(0.5f).blocker);
-    recordings();
+    wave_paths();
     signal(SIGTRAP, SIG_DFL);
 }

@@ -7,7 +7,7 @@
 #include <pthread.h>
 
 #include "stage.h"
-#include "wave.h"
+#include "wave_write.h"
 
 /* The smallest stack that a thread may have; what a call takes beyond it is seen too. */
 enum { SMALL = 16384, BEYOND = 32768, WORD = sizeof(uint64_t) };
@@ -52,6 +52,9 @@ static const char *name = "";
 static size_t bytes, band, samples, places;
 static uint8_t file[LONGEST_FILE];
 static size_t file_bytes;
+static uint8_t recorded[MOST_RECORDED + 2], written[44 + MOST_RECORDED];
+static uint32_t file_rate = 48000;
+static size_t recorded_bytes = 2, written_room = sizeof written;
 
 #define RUN(f, stage, laid, ...)                                                                           \
     static void run_##f(void)                                                                              \
@@ -158,6 +161,18 @@ static void try_block(size_t from, size_t to, int refused, int good, int model)
     measure_all(blocks, COUNT(blocks));
 }
 
+/* A file that is read, and samples that are written or refused: few of them, and now and then the most and
+ * more. */
+static void try_recording(int i)
+{
+    static const size_t lengths[] = {MOST_RECORDED, MOST_RECORDED + 1, MOST_RECORDED + 2};
+    file_bytes = draw_file(file);
+    file_rate = i % 8 ? 48000 : 7999;
+    recorded_bytes = i % 50 ? drawn() % LONGEST_FILE : lengths[i / 50 % COUNT(lengths)];
+    written_room = i % 4 ? sizeof written : 44 + recorded_bytes / 2;
+    measure_all(recordings, COUNT(recordings));
+}
+
 static void *on_small_stack(void *unused)
 {
     for (int i = 0; i < COUNT(names); i++)
@@ -173,10 +188,8 @@ static void *on_small_stack(void *unused)
             try_block(1, 1, 0, good, model);
             try_block(0, 0, 0, good, model);
         }
-    for (int i = 0; i < DRAWN_FILES; i++) {
-        file_bytes = draw_file(file);
-        measure_all(recordings, COUNT(recordings));
-    }
+    for (int i = 0; i < DRAWN_FILES; i++)
+        try_recording(i);
     return unused;
 }
 

@@ -84,6 +84,8 @@
     X(hoofglaze_tone_block, TONE, TONE_BYTES, tone, BUFFERS)                                               \
     X(hoofglaze_saturator_block, SATURATOR, SATURATOR_BYTES, saturator, BUFFERS)
 
-#define RECORDINGS(X) X(hoofglaze_wave_read, WAVE, 0, file, file_bytes)
+#define RECORDINGS(X)                                                                                      \
+    X(hoofglaze_wave_read, WAVE, 0, file, file_bytes)                                                      \
+    X(hoofglaze_wave_write, WAVE, 0, file_rate, recorded, recorded_bytes, written, written_room)
 
 #endif

@@ -1,10 +1,10 @@
-/* Checks of recordings beyond 32 bits: of the RIFF size and 8, of a place, of a length. They are lent at two
- * places near the end of what can be read, and most of each is never written. */
+/* Checks of recordings beyond 32 bits: of the RIFF size and 8, of a place, of a length, of room. They are
+ * lent near an end of what can be read or written, and most of each is never touched. */
 #include <stdio.h>
 
 #include "lent.h"
-#include "wave.h"
 #include "wave_bytes.h"
+#include "wave_write.h"
 
 #define LARGE ((uint64_t)1 << 32)
 
@@ -41,15 +41,74 @@ static void large_lengths(uint64_t at)
     check_readers("a byte past the RIFF size and 8", past, from, MOST_LENT - at);
 }
 
+static int can_lend_large(void)
+{
+    if (can_lend() < MOST_LENT)
+        printf("  not tried: it takes 12 GB of addresses, and they can't be had\n");
+    return can_lend() >= MOST_LENT;
+}
+
 void large_checks(void)
 {
     group("recordings: files beyond 32 bits");
-    if (can_lend() < MOST_LENT) {
-        printf("  not tried: there are no 4 GB of addresses to lend\n");
+    if (!can_lend_large())
         return;
-    }
     large_places(MOST_LENT - (LARGE + 7));
     large_places(MOST_LENT - (LARGE + 1024));
     large_lengths(MOST_LENT - (LARGE + 7));
     large_lengths(MOST_LENT - (LARGE + 1024));
+}
+
+/* ---- written */
+
+enum { LOOKED_AT = 256 };
+
+/* Samples that end with what can be read, of which none is looked at, and the first bytes of an output that
+ * ends with the room. */
+static void refused(uint32_t number, const char *name, uint64_t bytes, uint64_t room)
+{
+    uint8_t before[LOOKED_AT], *output = room_at(MOST_LENT - room);
+    size_t some = room < LOOKED_AT ? room : LOOKED_AT;
+    memset(before, 0x5a, sizeof before);
+    memcpy(output, before, some);
+    lent_to("hoofglaze_wave_write");
+    const uint8_t *samples = lent_at_end(before, 0) - bytes;
+    hoofglaze_written given = hoofglaze_wave_write(48000, samples, bytes, output, room);
+    lent_to(0);
+    check_written(name, given, (hoofglaze_written){number, 0}, bytes, room);
+    check(name, same_bytes(output, before, some), some, bytes, room, 2);
+}
+
+static void done(const char *name, uint64_t at, uint64_t room)
+{
+    static const uint8_t file[] = {RIFF(42), GOOD, SAMPLES};
+    uint8_t said[LOOKED_AT], *output = room_at(at);
+    memset(said, 0x5a, sizeof said);
+    memcpy(output, said, sizeof said);
+    memcpy(said, file, sizeof file);
+    lent_to("hoofglaze_wave_write");
+    hoofglaze_written given = hoofglaze_wave_write(48000, lent_at_end(file + 44, 6), 6, output, room);
+    lent_to(0);
+    check_written(name, given, (hoofglaze_written){0, 50}, at, room);
+    check(name, same_bytes(output, said, sizeof said), sizeof said, at, room, 2);
+}
+
+void large_write_checks(void)
+{
+    group("recordings written: samples and room beyond 32 bits");
+    if (!can_lend_large())
+        return;
+    refused(17, "2^32 bytes", LARGE, LARGE + 44);
+    refused(17, "2^32 bytes, room for none of them", LARGE, 44);
+    refused(14, "2^32 + 1 bytes", LARGE + 1, LARGE + 45);
+    refused(14, "2^32 + 1 bytes, no room", LARGE + 1, 0);
+    refused(17, "2^32 + 2 bytes", LARGE + 2, LARGE + 46);
+    refused(17, "2^32 + 2 bytes, room for two", LARGE + 2, 46);
+    refused(17, "2^32 bytes with the head", LARGE - 44, LARGE);
+    refused(17, "2^32 bytes with the head, no room", LARGE - 44, 0);
+    refused(17, "2^31 bytes", LARGE / 2, LARGE);
+    done("room of 2^32 bytes", MOST_LENT - LARGE, LARGE);
+    done("room of 2^32 + 10 bytes", 0, LARGE + 10);
+    done("room of 2^32 + 49 bytes", MOST_LENT - (LARGE + 49), LARGE + 49);
+    done("room of 2^31 bytes", 0, LARGE / 2);
 }

@@ -17,6 +17,7 @@ static const struct {
     {"tonestack", tone_next},
     {"multiband_saturator", saturator_next},
     {"wave", wave_next},
+    {"wave_write", wave_write_next},
 };
 
 int take(void *to, size_t bytes)
@@ -53,6 +54,7 @@ int main(int count, char **words)
     for (unsigned i = 0; count == 2 && i < sizeof stages / sizeof *stages; i++)
         if (strcmp(words[1], stages[i].name) == 0)
             return replayed(stages[i].next);
-    failed("it takes a stage: float, common, clipper, noise_gate, eq, tonestack, multiband_saturator, wave");
+    failed("it takes a stage: float, common, clipper, noise_gate, eq, tonestack, multiband_saturator, wave, "
+           "wave_write");
     return 2;
 }

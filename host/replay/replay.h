@@ -15,6 +15,7 @@ int eq_next(void);
 int tone_next(void);
 int saturator_next(void);
 int wave_next(void);
+int wave_write_next(void);
 
 /* Whether so many bytes were there to be read. */
 int take(void *to, size_t bytes);
@@ -44,6 +45,12 @@ struct block {
 
 /* The block whose two lengths stand in the head, its samples read; none where the input ends in it. */
 struct block *take_block(const uint8_t *lengths);
+
+/* Reads a count and so many bytes: whether they were there and no more than the most. */
+int take_counted(uint8_t *to, uint32_t most, uint32_t *count);
+
+/* What the reader says of a recording. */
+void give_wave(hoofglaze_wave w);
 
 /* Where no call of the stage has the number. */
 extern const hoofglaze_answer no_call;

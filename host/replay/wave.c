@@ -5,19 +5,29 @@
 /* A list with a longer file ends there. */
 enum { MOST = 1 << 20 };
 
-int wave_next(void)
+int take_counted(uint8_t *to, uint32_t most, uint32_t *count)
 {
-    static uint8_t file[MOST];
     uint8_t head[4];
     if (!take(head, sizeof head))
         return 0;
-    uint32_t length = word(head, 0);
-    if (length > MOST || !take(file, length))
-        return 0;
-    hoofglaze_wave w = hoofglaze_wave_read(file, length);
+    *count = word(head, 0);
+    return *count <= most && take(to, *count);
+}
+
+void give_wave(hoofglaze_wave w)
+{
     give(&w.number, 4);
     give(&w.rate, 4);
     give(&w.place, 8);
     give(&w.length, 8);
+}
+
+int wave_next(void)
+{
+    static uint8_t file[MOST];
+    uint32_t length;
+    if (!take_counted(file, MOST, &length))
+        return 0;
+    give_wave(hoofglaze_wave_read(file, length));
     return 1;
 }

@@ -1,8 +1,8 @@
 //! The oracle: what the stages answer, from the Rust as it stands and from document 01.
 //!
 //! Each stage that has lists has a module here, with a model written from document 01, the Rust stage with
-//! worked numbers lent, and a generator of call lists; [`stages::named`] finds it. The reader of WAVE files has
-//! a model written from document 02 alone.
+//! worked numbers lent, and a generator of call lists; [`stages::named`] finds it. The reader and the writer
+//! of WAVE files have models written from document 02 alone.
 pub mod bits;
 pub mod calls;
 pub mod clipper;
@@ -24,3 +24,4 @@ pub mod signals;
 pub mod stages;
 pub mod tonestack;
 pub mod wave;
+pub mod wave_write;

@@ -51,6 +51,8 @@ pub const fn answered(number: u32) -> &'static str {
         12 => "answered 12",
         13 => "answered 13",
         14 => "answered 14",
+        15 => "answered 15",
+        17 => "answered 17",
         _ => "answered by all ones",
     }
 }

@@ -3,6 +3,7 @@
 use crate::{
     clipper::Clipper, common::Common, eq::Eq, float::Float, gate::NoiseGate, program::Program,
     replay::Replay, saturator::MultibandSaturator, tonestack::ToneStack, wave::Wave,
+    wave_write::WaveWrite,
 };
 
 pub fn named(name: &str) -> Option<&'static dyn Replay> {
@@ -16,6 +17,7 @@ pub fn named(name: &str) -> Option<&'static dyn Replay> {
         "multiband_saturator" => Some(&MultibandSaturator::NEW),
         "program" => Some(&Program),
         "wave" => Some(&Wave),
+        "wave_write" => Some(&WaveWrite),
         _ => None,
     }
 }

@@ -4,5 +4,6 @@ pub mod Refusals
 pub mod Told
 pub mod Checks
 pub mod Blocks
+pub mod Buffers
 pub mod Crossing
 pub mod Names

@@ -1,11 +1,22 @@
-// Reading a recording, under a C name. Assumes nothing.
-use wave::Figures;
+// Reading and writing a recording, under C names. Assumes nothing.
 ghost use mathlib.Core.Path.{_≡_};
 ghost use Rattle.wave.specs.Reading.{read};
+ghost use Rattle.wave_write.specs.Writing.{write};
 
 #[no_mangle]
-pub extern "C" fn hoofglaze_wave_read(buffer: &[u8]) -> Figures
+pub extern "C" fn hoofglaze_wave_read(buffer: &[u8]) -> wave::Figures
     ensures { λ r. ⌜ r ≡ read (now (buffer .entry)) ⌝ }
 {
     wave::told(wave::read(buffer))
+}
+
+#[no_mangle]
+pub extern "C" fn hoofglaze_wave_write(
+    rate: u32,
+    samples: &[u8],
+    output: &mut [u8],
+) -> wave_write::Figures
+    ensures { λ r. ⌜ (r, now (output .exit)) ≡ write rate (now (samples .entry)) (now (output .entry)) ⌝ }
+{
+    wave_write::told(wave_write::write(rate, samples, output))
 }

@@ -8,9 +8,10 @@ use native.Mathlib.Numerals.{add-one}
 use native.Mathlib.Omega.{arith}
 use lib.ListN.{length, take, drop, getD, set, length-set, length-drop, take-append-drop}
 use lib.Seq.{drop-cons, take-suc-set, drop-set-lt}
+use Rattle.answer.specs.Buffers.{over}
 use Rattle.fold.specs.Fold.{more, stateAfter, outAfter, countAfter}
 use Rattle.fold.proofs.Block.{more-add, more-le}
-use Rattle.pcm_gate.specs.Bytes.{wordsOf, bytesOf, over}
+use Rattle.pcm_gate.specs.Bytes.{wordsOf, bytesOf}
 
 -- ---- lists, two at a time
 two-on : (i : ℕ) → i + 2 ≡ suc (suc i)

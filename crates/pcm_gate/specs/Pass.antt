@@ -5,6 +5,7 @@ use mathlib.Core.Bool.{Bool}
 use mathlib.Core.List.{List}
 use lib.Dec.{eqb}
 use lib.ListN.{length}
+use Rattle.answer.specs.Buffers.{over}
 use Rattle.answer.specs.Figures.{nought}
 use Rattle.answer.specs.Told.{Told, refused, doneWith, unless}
 use Rattle.answer.specs.declared.Refusal.the-variants.{LengthsDiffer, BadState}
@@ -16,7 +17,7 @@ use Rattle.noise_gate_sample.specs.declared.Registers.{Registers}
 use Rattle.noise_gate.specs.Bounds.{acceptable}
 use Rattle.noise_gate.specs.Calls.{gateOf}
 use Rattle.noise_gate.specs.declared.Gate.{Gate}
-use Rattle.pcm_gate.specs.Bytes.{wordsOf, bytesOf, over}
+use Rattle.pcm_gate.specs.Bytes.{wordsOf, bytesOf}
 
 -- one sample, as a word
 module _ (s : Settings) (m : Registers) (w : ℕ) where

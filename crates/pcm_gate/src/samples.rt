@@ -4,7 +4,7 @@ use noise_gate_settings::Settings;
 ghost use Prim.Native.Nat.{_+_, _*_};
 ghost use lib.ListN.{length};
 ghost use mathlib.Core.Path.{_≡_};
-ghost use Rattle.pcm_gate.specs.Bytes.{over};
+ghost use Rattle.answer.specs.Buffers.{over};
 ghost use Rattle.pcm_gate.specs.Pass as Pass;
 
 // What a sample leaves and the word that it gives, and whether the gate aims open at it.

@@ -105,7 +105,7 @@ fn smaller(a: usize, b: usize) -> usize
     if b < a { b } else { a }
 }
 
-fn is_rate(rate: u32) -> bool
+pub fn is_rate(rate: u32) -> bool
     ensures { λ r. ⌜ r ≡ Reading.isRate rate ⌝ }
 {
     if LOWEST_RATE <= rate {

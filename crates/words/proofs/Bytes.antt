@@ -9,9 +9,9 @@ use mathlib.Core.List.{List, _∷_, _++_}
 use lib.ListN.{length, drop, getD}
 use lib.Seq.{getD-drop, drop-cons}
 use borrow.Author.Tests.{le-leb}
-use Rattle.words.specs.Words.{word16, word32, word16At, word32At, le16, le32}
+use Rattle.words.specs.Words.{word16, word32, word16At, word32At, put32, put32At, le16, le32}
 
--- ---- where all of its bytes lie in the list, the word that is looked for is the word there
+-- ---- where all of its bytes lie in the list, the word that is looked for is the word there, and one that is to be written is written
 module _ (s : List ℕ) (at : ℕ) where
   pub inside16 : at + 2 ≤ length s → word16At s at ≡ word16 s at
   unfolding word16At
@@ -20,6 +20,10 @@ module _ (s : List ℕ) (at : ℕ) where
   pub inside32 : at + 4 ≤ length s → word32At s at ≡ word32 s at
   unfolding word32At
   inside32 h = rw (le-leb (at + 4) (length s) h)
+
+  pub put-inside32 : (n : ℕ) → at + 4 ≤ length s → put32At s at n ≡ put32 s at n
+  unfolding put32At
+  put-inside32 n h = rw (le-leb (at + 4) (length s) h)
 
 -- ---- behind a place
 module _ (s : List ℕ) (a : ℕ) where

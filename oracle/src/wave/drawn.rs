@@ -70,7 +70,7 @@ fn some_chunks(file: &mut File, draw: fn(&mut Random) -> Chunk, random: &mut Ran
     file.chunks.extend((0..count).map(|_| draw(random)));
 }
 
-fn accepted_rate(random: &mut Random) -> u32 {
+pub fn accepted_rate(random: &mut Random) -> u32 {
     match random.below(3) {
         0 => random.pick(&[8_000, 8_001, 191_999, 192_000]),
         1 => random.pick(&[11_025, 16_000, 22_050, 44_100, 48_000, 96_000]),

@@ -3,14 +3,14 @@
 //! `oracle/README.md` says what stands where in a call and in its answer.
 mod cases;
 mod chunks;
-mod drawn;
+pub(crate) mod drawn;
 mod faults;
-mod file;
+pub(crate) mod file;
 mod formats;
-mod recordings;
+pub(crate) mod recordings;
 #[cfg(test)]
 mod rows;
-mod rules;
+pub(crate) mod rules;
 
 use crate::{
     random::Random,
@@ -39,7 +39,7 @@ fn files(list: &[u8]) -> impl Iterator<Item = &[u8]> {
     })
 }
 
-fn answer(told: Told) -> Vec<u8> {
+pub(crate) fn answer(told: Told) -> Vec<u8> {
     let mut bytes = told.number.to_le_bytes().to_vec();
     bytes.extend(told.rate.to_le_bytes());
     bytes.extend(told.place.to_le_bytes());

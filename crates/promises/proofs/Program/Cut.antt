@@ -9,6 +9,7 @@ use lib.Dec.{T}
 use lib.ListN.{length, length-append}
 use borrow.Author.Tests.{eq-eqb}
 use Rattle.rounding.proofs.Smoothing.{sixty-four}
+use Rattle.answer.specs.Buffers.{over}
 use Rattle.answer.specs.Figures.{nought}
 use Rattle.answer.specs.Told.{doneWith}
 use Rattle.fold.specs.Fold.{stateAfter}
@@ -21,7 +22,7 @@ use Rattle.noise_gate.specs.Calls.{gateOf}
 use Rattle.noise_gate.specs.declared.Gate.{Gate}
 use Rattle.silence.proofs.Accepted.{Settable, Bounded, accepts}
 use Rattle.silence.proofs.OneSample.{next-bounded}
-use Rattle.pcm_gate.specs.Bytes.{wordsOf, over}
+use Rattle.pcm_gate.specs.Bytes.{wordsOf}
 use Rattle.pcm_gate.specs.Pass.{next, after, outputs, openCount, pass}
 use Rattle.promises.specs.Program.{inTwo}
 use Rattle.promises.proofs.Program.Parts.{over-parts, after-parts, outputs-parts, counts-parts, outputs-length}

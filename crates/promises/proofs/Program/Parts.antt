@@ -5,10 +5,11 @@ use mathlib.Core.List.{List, [], _∷_, _++_}
 use Prim.Native.Nat.{ℕ, _+_, _*_, _/_, _%_}
 use native.Mathlib.Omega.{arith}
 use lib.ListN.{length}
+use Rattle.answer.specs.Buffers.{over}
 use Rattle.fold.proofs.Parts.{state-parts, out-parts, count-parts, out-length}
 use Rattle.noise_gate_settings.specs.declared.Settings.{Settings}
 use Rattle.noise_gate_sample.specs.declared.Registers.{Registers}
-use Rattle.pcm_gate.specs.Bytes.{wordsOf, bytesOf, over}
+use Rattle.pcm_gate.specs.Bytes.{wordsOf, bytesOf}
 use Rattle.pcm_gate.specs.Pass.{next, output, aim, after, outputs, openCount}
 
 -- ---- words and bytes
