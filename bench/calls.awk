@@ -21,6 +21,11 @@ function alone(f) {
     printf "%-20s%10s%10s\n", f, a_call("hoofglaze", f, "random"), a_call("rendering", f, "random")
 }
 
+function root(title, operands) {
+    printf "%-20s%10s%10s%10s\n", title, a_call("hoofglaze", "root32", operands), \
+        a_call("rendering", "root32", operands), a_call("libm", "root32", operands)
+}
+
 END {
     calls = 8 * 4096
     heads = sprintf("%10s%10s%10s%5s", "library", "in C", "soft libm", "aim")
@@ -34,6 +39,10 @@ END {
     row("one subnormal", "subnormal", "", "")
     row("exponents far apart", "far", "", "")
     row("one NaN", "nan", "", "")
+    printf "\n%-20s%10s%10s%10s\n", "root32", "library", "in C", "libm"
+    root("from 2^-4 to 2^4", "random")
+    root("from 2^-16 to 2^16", "spread")
+    root("subnormal", "subnormal")
     printf "\n%-20s%10s%10s\n", "from 2^-4 to 2^4", "library", "in C"
     alone("size32")
     alone("size64")

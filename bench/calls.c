@@ -12,6 +12,9 @@ enum { PREPARED = 4096, ROUNDS = 8 };
 static float a32[PREPARED], b32[PREPARED], c32[PREPARED];
 static double a64[PREPARED], b64[PREPARED], c64[PREPARED];
 
+/* What a root is taken of: the sizes of a32, or subnormals alone in their row. */
+static float squares[PREPARED];
+
 /* ---- operands */
 
 static uint64_t drawn(void)
@@ -67,6 +70,8 @@ static void prepare(enum row row)
         if (row == NOT_A_NUMBER)
             put(i % 3, i, 0.0f / 0.0f, 0.0 / 0.0);
     }
+    for (int i = 0; i < PREPARED; i++)
+        squares[i] = fabsf(row == SUBNORMAL ? (float)normal(-140, 8) : a32[i]);
 }
 
 /* ---- who offers the functions */
@@ -75,6 +80,7 @@ struct offer {
     const char *whose;
     float (*fma32)(float a, float b, float c);
     double (*fma64)(double a, double b, double c);
+    float (*root32)(float x);
     float (*size32)(float x);
     double (*size64)(double x);
     uint64_t (*truncated)(float x);
@@ -85,19 +91,20 @@ struct offer {
 __asm__(".text\n.globl nothing\nnothing:\n\tret\n");
 float nothing_fma32(float a, float b, float c) __asm__("nothing");
 double nothing_fma64(double a, double b, double c) __asm__("nothing");
+float nothing_root32(float x) __asm__("nothing");
 float nothing_size32(float x) __asm__("nothing");
 double nothing_size64(double x) __asm__("nothing");
 uint64_t nothing_truncated(float x) __asm__("nothing");
 float nothing_narrowed(double x) __asm__("nothing");
 
 static const struct offer offers[] = {
-    {"nothing", nothing_fma32, nothing_fma64, nothing_size32, nothing_size64, nothing_truncated,
-     nothing_narrowed},
-    {"hoofglaze", hoofglaze_fma32, hoofglaze_fma64, hoofglaze_size32, hoofglaze_size64,
+    {"nothing", nothing_fma32, nothing_fma64, nothing_root32, nothing_size32, nothing_size64,
+     nothing_truncated, nothing_narrowed},
+    {"hoofglaze", hoofglaze_fma32, hoofglaze_fma64, hoofglaze_root32, hoofglaze_size32, hoofglaze_size64,
      hoofglaze_truncated, hoofglaze_narrowed},
-    {"rendering", rendered_fma32, rendered_fma64, rendered_size32, rendered_size64,
+    {"rendering", rendered_fma32, rendered_fma64, rendered_root32, rendered_size32, rendered_size64,
      rendered_truncated, rendered_narrowed},
-    {"libm", fmaf, fma, fabsf, fabs, 0, 0},
+    {"libm", fmaf, fma, sqrtf, fabsf, fabs, 0, 0},
 };
 
 #define CALLS(CALL)                              \
@@ -111,6 +118,8 @@ static int call(const struct offer *o, const char *function)
         CALLS(o->fma32(a32[i], b32[i], c32[i]));
     else if (strcmp(function, "fma64") == 0)
         CALLS(o->fma64(a64[i], b64[i], c64[i]));
+    else if (strcmp(function, "root32") == 0)
+        CALLS(o->root32(squares[i]));
     else if (strcmp(function, "size32") == 0)
         CALLS(o->size32(a32[i]));
     else if (strcmp(function, "size64") == 0)
@@ -135,9 +144,11 @@ static int agree_at(int i)
 {
     const struct offer *h = &offers[1], *r = &offers[2], *l = &offers[3];
     float a = a32[i], b = b32[i], c = c32[i], sum32 = h->fma32(a, b, c);
+    float square = squares[i], root = h->root32(square);
     double x = a64[i], y = b64[i], z = c64[i], sum64 = h->fma64(x, y, z);
     return same(sum32, r->fma32(a, b, c)) && same(sum32, l->fma32(a, b, c)) &&
            same(sum64, r->fma64(x, y, z)) && same(sum64, l->fma64(x, y, z)) &&
+           same(root, r->root32(square)) && same(root, l->root32(square)) &&
            same(h->size32(a), r->size32(a)) && same(h->size64(x), r->size64(x)) &&
            h->truncated(a) == r->truncated(a) && same(h->narrowed(x), r->narrowed(x));
 }

@@ -181,6 +181,50 @@ double rendered_fma64(double a, double b, double c)
     return normal64(u < v ? t : s, n, x + y);
 }
 
+/* ---- root */
+
+/* About the root of x, less a base: a guess, and two means of it and x divided by it. */
+static uint64_t guess(uint32_t x, uint64_t base)
+{
+    float of = float_of(x), first = float_of((x >> 1) + 0x1fbb6800);
+    float second = (first + of / first) * 0.49985f, third = (second + of / second) * 0.5f;
+    uint64_t g = (uint64_t)bytes32(third) - base;
+    return g > 0x02000000 ? 0x00800000 : g;
+}
+
+/* The whole number nearest to the root of n, from q on. */
+static uint64_t nearest_root(uint64_t n, uint64_t q)
+{
+    while (n + q <= q * q)
+        q--;
+    while (q * q + q < n)
+        q++;
+    return q;
+}
+
+static float subnormal_root(uint64_t x)
+{
+    unsigned t = __builtin_clzll(x) - 40, odd = t % 2;
+    uint64_t m = x << t, g = guess(0x3f000000 + (odd << 23) + (uint32_t)m, 0x3f000000);
+    return float_of(((126 - t - odd) / 2 << 23) + (uint32_t)nearest_root(m << (23 + odd), g));
+}
+
+static float positive_root(uint64_t x)
+{
+    if (x < 0x00800000)
+        return subnormal_root(x);
+    uint64_t k = (x >> 23) - 1, base = (k + 126) / 2 << 23;
+    uint64_t n = ((x & 0x007fffff) | 0x00800000) << (23 + k % 2);
+    return float_of((uint32_t)(base + nearest_root(n, guess((uint32_t)x, base))));
+}
+
+float rendered_root32(float x)
+{
+    if (x > 0)
+        return x < __builtin_inff() ? positive_root(bytes32(x)) : x;
+    return x == 0 ? x : float_of(QUIET32);
+}
+
 /* ---- casts and size */
 
 float rendered_size32(float x)

@@ -3,6 +3,7 @@
 
 float rendered_fma32(float a, float b, float c);
 double rendered_fma64(double a, double b, double c);
+float rendered_root32(float x);
 float rendered_size32(float x);
 double rendered_size64(double x);
 uint64_t rendered_truncated(float x);

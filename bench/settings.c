@@ -76,3 +76,15 @@ hoofglaze_saturator a_saturator(void)
     s.settings.levels = (hoofglaze_saturator_bands){1.25f, 1, 0.75f};
     return s;
 }
+
+/* ---- leveller */
+
+hoofglaze_leveller a_leveller(float ratio)
+{
+    hoofglaze_leveller l = hoofglaze_leveller_make(RATE, smoothing(RATE, 1), smoothing(RATE, 100)).leveller;
+    l.settings.threshold.decibels = -40;
+    l.settings.factor.factor = 0.01f;
+    l.settings.ratio = ratio;
+    l.settings.makeup.factor = 2.5f;
+    return l;
+}

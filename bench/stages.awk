@@ -31,6 +31,11 @@ END {
     line("equaliser, none set", "eq-flat")
     line("tone stack", "tone")
     line("saturator", "saturator")
+    line("leveller, ratio 1", "leveller-1")
+    line("leveller, ratio 2, loud", "leveller-2")
+    line("leveller, ratio 4, loud", "leveller-4")
+    line("leveller, ratio 4, soft", "leveller-soft")
+    line("leveller, ratio 4, silence", "leveller-silence")
     if (!(("hardware", "gate") in counted))
         print "no fma: the counter offers the program no such instruction here"
 }

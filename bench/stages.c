@@ -33,6 +33,19 @@ static void words(void)
         input[i] = drawn() * (i < SAMPLES / 2 ? 0.5f : 0.002f);
 }
 
+static void loud(void)
+{
+    for (int i = 0; i < SAMPLES; i++)
+        input[i] = drawn() * 0.5f;
+}
+
+/* Below the leveller's threshold. */
+static void soft_talk(void)
+{
+    for (int i = 0; i < SAMPLES; i++)
+        input[i] = drawn() * 0.01f;
+}
+
 static void silence(void)
 {
     memset(input, 0, sizeof input);
@@ -110,6 +123,27 @@ static void saturator(const struct offer *o)
     BLOCKS(s, o->saturator_block, saturator)
 }
 
+static void leveller_at(const struct offer *o, float ratio)
+{
+    hoofglaze_leveller l = a_leveller(ratio);
+    BLOCKS(l, o->leveller_block, leveller)
+}
+
+static void leveller_1(const struct offer *o)
+{
+    leveller_at(o, 1);
+}
+
+static void leveller_2(const struct offer *o)
+{
+    leveller_at(o, 2);
+}
+
+static void leveller_4(const struct offer *o)
+{
+    leveller_at(o, 4);
+}
+
 static const struct row {
     const char *name;
     void (*fill)(void);
@@ -125,6 +159,11 @@ static const struct row {
     {"eq-flat", words, eq_flat},
     {"tone", words, tone},
     {"saturator", words, saturator},
+    {"leveller-1", loud, leveller_1},
+    {"leveller-2", loud, leveller_2},
+    {"leveller-4", loud, leveller_4},
+    {"leveller-soft", soft_talk, leveller_4},
+    {"leveller-silence", silence, leveller_4},
 };
 
 enum { ROWS = sizeof rows / sizeof *rows };
@@ -148,6 +187,7 @@ static struct offer offer_of_nothing(void)
 static const struct offer library = {
     hoofglaze_follower_step, hoofglaze_blocker_step, hoofglaze_gate_block, hoofglaze_clip_hard,
     hoofglaze_clip_triode,   hoofglaze_eq_block,     hoofglaze_tone_block, hoofglaze_saturator_block,
+    hoofglaze_leveller_block,
 };
 
 static int fused(void)

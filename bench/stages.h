@@ -16,6 +16,8 @@ struct offer {
                                           float *output, size_t places);
     hoofglaze_saturator_answered (*saturator_block)(hoofglaze_saturator s, const float *input,
                                                     size_t samples, float *output, size_t places);
+    hoofglaze_leveller_answered (*leveller_block)(hoofglaze_leveller l, const float *input, size_t samples,
+                                                  float *output, size_t places);
 };
 
 extern const struct offer soft, hardware;

@@ -72,6 +72,18 @@ static void saturator(void)
     no_setting("saturator_read", hoofglaze_saturator_read(s, 0, 0));
 }
 
+static void leveller(void)
+{
+    hoofglaze_leveller l = hoofglaze_leveller_make(48000, 0.5f, 0.5f).leveller;
+    l.registers.level = -0.0f;
+    hoofglaze_leveller_answered a = hoofglaze_leveller_block(l, 0, 0, 0, 0);
+    done_and_same("leveller_block", a.answer, &a.leveller, &l, sizeof l);
+    check_answer("leveller_block", hoofglaze_leveller_block(l, 0, 0, output, 1).answer, 7, 0, 0, 0);
+    check_answer("leveller_block", hoofglaze_leveller_block(l, input, 1, 0, 0).answer, 7, 0, 0, 0);
+    no_setting("leveller_set", hoofglaze_leveller_set(l, 0, 0, 1, 0).answer);
+    no_setting("leveller_read", hoofglaze_leveller_read(l, 0, 0));
+}
+
 static void recordings(void)
 {
     static const uint8_t none[] = {RIFF(36), GOOD, HEAD("data", 0)}, two[2];
@@ -92,5 +104,6 @@ void empty_checks(void)
     eq();
     tone();
     saturator();
+    leveller();
     recordings();
 }

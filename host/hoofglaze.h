@@ -14,7 +14,7 @@
 #include <stdint.h>
 
 /* Grows by one with each release that a host can tell from the one before; docs/RELEASES.md says how. */
-#define HOOFGLAZE_VERSION 3
+#define HOOFGLAZE_VERSION 4
 
 #ifdef __cplusplus
 extern "C" {
@@ -32,6 +32,7 @@ enum {
     HOOFGLAZE_STACK_EQ = 6144,
     HOOFGLAZE_STACK_TONE = 512,
     HOOFGLAZE_STACK_SATURATOR = 2304,
+    HOOFGLAZE_STACK_LEVELLER = 512,
     HOOFGLAZE_STACK_WAVE = 256
 };
 
@@ -45,6 +46,10 @@ enum {
  * infinities and any NaN operand give NaN. */
 float hoofglaze_fma32(float a, float b, float c);
 double hoofglaze_fma64(double a, double b, double c);
+
+/* The square root: the float nearest to it. No two are equally near. Zeros keep their sign, infinity gives
+ * infinity; NaN and what is below zero give NaN. */
+float hoofglaze_root32(float x);
 
 /* The size of a number: x without its sign, so -0 gives +0. */
 float hoofglaze_size32(float x);
@@ -83,7 +88,7 @@ double hoofglaze_from_bits64(uint64_t n);
  * 7 the two buffers differ in length
  * 8 block longer than 4,096 samples
  * 9 a state's settings, rate or worked numbers couldn't have been set or made, or the gate's level,
- *   state or counter is out of bounds
+ *   state or counter or the leveller's level is out of bounds
  *
  * Where a call's comment has numbers in a row, as 9, 1, 3, 4, it is tested for these refusals in this
  * order and the first that holds is its answer; it is refused by no other.
@@ -109,9 +114,11 @@ typedef struct {
  * are checked for their range only, not against that value. The Rust takes
  *
  *   for a time in ms, the smoothing number exp(-1 / (rate * 0.001 * ms)); a gate's follower has 0.1 ms
- *   (rising) and 10 ms (falling), a saturator's three followers have 1 ms (attack) and 50 ms (release);
+ *   (rising) and 10 ms (falling), a saturator's three followers have 1 ms (attack) and 50 ms (release), a
+ *   leveller's has the attack and the release that are set, 1 ms and 100 ms as it is made;
  *   for a DC blocker's corner in Hz, exp(-2 pi * corner / rate); a saturator's three have 15 Hz;
- *   for a threshold in dB, the factor 10^(dB / 20);
+ *   for a threshold in dB, the factor 10^(dB / 20); a leveller's makeup is such a factor itself, of its dB,
+ *   and has no worked number;
  *   for a presence, the factor 10^((presence - 1) * 6 / 20);
  *   for a band of an equaliser, the Audio EQ Cookbook's peaking filter of 10/16 octave, in double: f is
  *   the band's centre, held to at most 0.499 * rate; w = 2 pi * f / rate; A = 10^(dB / 40); alpha =
@@ -470,6 +477,78 @@ hoofglaze_saturator_answered hoofglaze_saturator_reset(hoofglaze_saturator s);
 /* A block of samples from one buffer into another: 9, 7, 8, 6. An empty block is done. */
 hoofglaze_saturator_answered hoofglaze_saturator_block(hoofglaze_saturator s, const float *input,
                                                        size_t samples, float *output, size_t places);
+
+/* ---- Leveller
+ *
+ * For soft talkers: it brings loud passages down, and makeup brings all up, so that soft words come out
+ * nearer to loud ones. Of the dB that the level is above the threshold, half are left at ratio 2 and a
+ * quarter at ratio 4; while it is not above, a sample is multiplied by makeup alone.
+ *
+ * One sample, in order: r is the larger of the sample's size and 1e-10; follower on r, with attack's and
+ * release's numbers; over is the larger of level/factor and 1. If ratio is 1 or over is 1, gain = 1; else s
+ * is the root of over, and gain = 1/s at ratio 2, 1/(s*q) at ratio 4, where q is the root of s. Output =
+ * (input*gain)*makeup. All in float, each operation rounded.
+ *
+ * The gain is above 0 and at most 1, so no output is larger in size than input*makeup. At ratio 1 and makeup
+ * 1, as it is made, each output is its input, bit for bit.
+ *
+ * With makeup an output can be up to 256 in size. Another stage's 6, and the leveller's own, refuses what is
+ * larger than 64: a host scales or clips such outputs before it hands them on. */
+
+/* What a host sets. */
+typedef struct {
+    float rate;
+    hoofglaze_decibels threshold; /* -80 to 0 dB */
+    hoofglaze_factor factor;      /* the threshold's linear factor, 2^-14 to 1 */
+    float ratio;                  /* 1, 2 or 4 */
+    float attack, rising;         /* 0.1 to 100 ms, and its smoothing number, from 0 to below 1 */
+    float release, falling;       /* 1 to 1,000 ms, and its smoothing number, from 0 to below 1 */
+    hoofglaze_factor makeup;      /* 0 to 4 */
+} hoofglaze_leveller_settings;
+
+/* What a sample moves. */
+typedef struct {
+    float level; /* 0 to 64 */
+} hoofglaze_leveller_registers;
+
+typedef struct {
+    hoofglaze_leveller_settings settings;
+    hoofglaze_leveller_registers registers;
+} hoofglaze_leveller;
+
+typedef struct {
+    hoofglaze_leveller leveller;
+    hoofglaze_answer answer;
+} hoofglaze_leveller_answered;
+
+/* A leveller at rest: threshold 0 dB, factor 1; ratio 1; attack 1 ms and release 100 ms, whose smoothing
+ * numbers are given here; makeup 1; level 0. Refused by 5, then 4, with numbers that are all 0. */
+hoofglaze_leveller_answered hoofglaze_leveller_make(float rate, float rising, float falling);
+
+/* A setting by its name, the bytes threshold, ratio, attack, release or makeup, with its value in the unit
+ * above (makeup: its factor) and its worked number (threshold: the factor; attack, release: the smoothing
+ * number), which ratio and makeup don't look at: 9, 1, 3, 4. The level stays. */
+hoofglaze_leveller_answered hoofglaze_leveller_set(hoofglaze_leveller l, const uint8_t *name, size_t bytes,
+                                                   float value, float worked);
+
+/* The same setting by setting: 9, 3, 4. */
+hoofglaze_leveller_answered hoofglaze_leveller_set_threshold(hoofglaze_leveller l, hoofglaze_decibels value,
+                                                             hoofglaze_factor worked);
+hoofglaze_leveller_answered hoofglaze_leveller_set_ratio(hoofglaze_leveller l, float value);
+hoofglaze_leveller_answered hoofglaze_leveller_set_attack(hoofglaze_leveller l, float value, float worked);
+hoofglaze_leveller_answered hoofglaze_leveller_set_release(hoofglaze_leveller l, float value, float worked);
+hoofglaze_leveller_answered hoofglaze_leveller_set_makeup(hoofglaze_leveller l, hoofglaze_factor value);
+
+/* The answer's value is the setting of that name; of the threshold, the dB last set; of makeup, its factor:
+ * 9, 1. */
+hoofglaze_answer hoofglaze_leveller_read(hoofglaze_leveller l, const uint8_t *name, size_t bytes);
+
+/* Level 0, settings kept: 9. */
+hoofglaze_leveller_answered hoofglaze_leveller_reset(hoofglaze_leveller l);
+
+/* A block of samples from one buffer into another: 9, 7, 8, 6. An empty block is done. */
+hoofglaze_leveller_answered hoofglaze_leveller_block(hoofglaze_leveller l, const float *input, size_t samples,
+                                                     float *output, size_t places);
 
 /* ---- Recordings
  *

@@ -12,6 +12,7 @@ _Static_assert(sizeof(hoofglaze_blocker) == 12 && sizeof(hoofglaze_blocker_answe
 _Static_assert(sizeof(hoofglaze_decibels) == 4 && sizeof(hoofglaze_factor) == 4, "a float each");
 _Static_assert(sizeof(hoofglaze_gate_settings) == 44 && sizeof(hoofglaze_gate_registers) == 16, "a gate");
 _Static_assert(sizeof(hoofglaze_gate) == 64 && sizeof(hoofglaze_gate_answered) == 88, "a gate answered");
+_Static_assert(sizeof(hoofglaze_leveller) == 40 && sizeof(hoofglaze_leveller_answered) == 64, "a leveller");
 
 static uint32_t word_at(const void *from, size_t place)
 {
@@ -107,6 +108,57 @@ static void gate_handed_back(void)
     check_floats("gate_block_in_place", &g, 12, settings + 3, 8);
 }
 
+/* Every number of this leveller is another one, but for the ratio and makeup. */
+static const float levelled[] = {96000, -24, 0.0625f, 2, 5, 0.75f, 90, 0.5f, 2, 0.25f};
+
+static hoofglaze_leveller set_leveller(void)
+{
+    hoofglaze_leveller l = hoofglaze_leveller_make(levelled[0], 0.125f, 0.375f).leveller;
+    const hoofglaze_decibels threshold = {levelled[1]};
+    const hoofglaze_factor factor = {levelled[2]}, makeup = {levelled[8]};
+    l = hoofglaze_leveller_set_threshold(l, threshold, factor).leveller;
+    l = hoofglaze_leveller_set_ratio(l, levelled[3]).leveller;
+    l = hoofglaze_leveller_set_attack(l, levelled[4], levelled[5]).leveller;
+    l = hoofglaze_leveller_set_release(l, levelled[6], levelled[7]).leveller;
+    return hoofglaze_leveller_set_makeup(l, makeup).leveller;
+}
+
+/* The level rises by a quarter of 1, to four times the threshold's factor. */
+static void leveller_given(void)
+{
+    const float input[] = {1, 1, 65};
+    float output[3];
+    hoofglaze_leveller_answered a = hoofglaze_leveller_block(set_leveller(), input, 1, output, 1);
+    check_floats("leveller_block", &a, 0, levelled, 10);
+    check_answer_at("leveller_block", &a, 40, 0, 0, 0, 0);
+    check_floats("leveller_block", output, 0, (float[]){1}, 1);
+    a = hoofglaze_leveller_block(a.leveller, input, 3, output, 3);
+    check_answer_at("leveller_block", &a, 40, 6, 0, 2, 0);
+    check_floats("leveller_block", &a, 0, levelled, 10);
+    hoofglaze_answer r = hoofglaze_leveller_read(a.leveller, (const uint8_t *)"release", 7);
+    check_answer_at("leveller_read", &r, 0, 0, 90, 0, 0);
+}
+
+/* A leveller from bytes that were never one: its level falls by half, to sixteen times the factor. */
+static void leveller_handed_back(void)
+{
+    uint8_t bytes[40];
+    const float ratio = 4, level = 2, input = -0.0f;
+    float output;
+    hoofglaze_leveller l;
+    memcpy(bytes, levelled, sizeof bytes);
+    memcpy(bytes + 12, &ratio, sizeof ratio);
+    memcpy(bytes + 36, &level, sizeof level);
+    memcpy(&l, bytes, sizeof l);
+    hoofglaze_leveller_answered a = hoofglaze_leveller_block(l, &input, 1, &output, 1);
+    check_answer_at("leveller_block", &a, 40, 0, 0, 0, 0);
+    check_floats("leveller_block", &a, 36, (float[]){1}, 1);
+    check_floats("leveller_block", &output, 0, (float[]){-0.0f}, 1);
+    check_floats("leveller_block", &a, 0, levelled, 3);
+    check_floats("leveller_block", &a, 12, (float[]){4}, 1);
+    check_floats("leveller_block", &a, 16, levelled + 4, 5);
+}
+
 static void recording(void)
 {
     hoofglaze_wave w;
@@ -142,6 +194,8 @@ void layout_checks(void)
     lone();
     gate_given();
     gate_handed_back();
+    leveller_given();
+    leveller_handed_back();
     recording();
     recording_written();
 }

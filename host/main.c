@@ -12,6 +12,8 @@ void tonestack_checks(void);
 void saturator_checks(void);
 void wave_checks(void);
 void write_checks(void);
+void root_checks(void);
+void leveller_checks(void);
 void layout_checks(void);
 void padding_checks(void);
 void empty_checks(void);
@@ -30,6 +32,8 @@ int main(int count, char **words)
     saturator_checks();
     wave_checks();
     write_checks();
+    root_checks();
+    leveller_checks();
     layout_checks();
     padding_checks();
     empty_checks();

@@ -202,6 +202,51 @@ static void told_words(const struct passage *p)
            first, second, p->open_in_comfortable, END - COMFORTABLE, open);
 }
 
+/* ---- the same gate behind a leveller */
+
+/* Threshold -20 dB, ratio 4, makeup 4; attack 1 ms, release 100 ms. */
+static hoofglaze_leveller a_leveller(void)
+{
+    hoofglaze_leveller l = hoofglaze_leveller_make(RATE, smoothing(RATE, 1), smoothing(RATE, 100)).leveller;
+    hoofglaze_factor factor = {(float)pow(10, -20.0 / 20)};
+    hoofglaze_leveller_answered a = hoofglaze_leveller_set_threshold(l, (hoofglaze_decibels){-20}, factor);
+    check("the leveller's threshold is set", a.answer.number, 0, 0, 0, 0);
+    a = hoofglaze_leveller_set_ratio(a.leveller, 4);
+    check("the leveller's ratio is set", a.answer.number, 0, 0, 0, 0);
+    a = hoofglaze_leveller_set_makeup(a.leveller, (hoofglaze_factor){4});
+    check("the leveller's makeup is set", a.answer.number, 0, 0, 0, 0);
+    return a.leveller;
+}
+
+/* What the leveller makes of the recording takes its place. */
+static void level_recording(void)
+{
+    hoofglaze_leveller l = a_leveller();
+    for (int i = 0; i < samples; i += BLOCK) {
+        int n = samples - i < BLOCK ? samples - i : BLOCK;
+        hoofglaze_leveller_answered a = hoofglaze_leveller_block(l, recording + i, n, output + i, n);
+        check("a leveller's block is done", a.answer.number, 0, i, 0, 0);
+        l = a.leveller;
+    }
+    memcpy(recording, output, samples * sizeof *recording);
+}
+
+/* Makeup alone would bring the loudest samples beyond full scale. */
+static void told_levelled(void)
+{
+    float alone = 4 * loudest(recording, 0, samples);
+    level_recording();
+    float most = loudest(recording, 0, samples);
+    rounded("the loudest sample by makeup alone, in hundredths", 100 * alone, 123);
+    rounded("the loudest sample levelled, in hundredths", 100 * most, 84);
+    printf("  a leveller before the gate (threshold -20 dB, ratio 4, makeup 4) leaves the loudest sample at %.2f\n"
+           "  of full scale, where makeup alone would have it at %.2f; the same gate behind it:\n",
+           most, alone);
+    struct passage p = told(-12);
+    rounded("percent of \"not\" aimed open", 100.0 * p.open_in_not / NOT, 52);
+    rounded("percent of \"comfortable\" aimed open", 100.0 * p.open_in_comfortable / (END - COMFORTABLE), 61);
+}
+
 void mission_checks(const char *path)
 {
     group("mission: a quiet \"not\" before a loud \"comfortable\"");
@@ -220,4 +265,5 @@ void mission_checks(const char *path)
            decibels(quiet), decibels(loud));
     told_words(&missed);
     window(-12, quiet, loud);
+    told_levelled();
 }

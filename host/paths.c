@@ -7,8 +7,6 @@
 #include "eq.h"
 #include "paths.h"
 
-#define NAME(text) (const uint8_t *)text, sizeof text - 1
-
 enum { BELOW = 48 << 10, BLOCK = 8, FEWEST = 20 };
 
 /* What the stack is filled with: 0, the tags of enums, and what is none of them. */
@@ -250,6 +248,7 @@ void path_checks(void)
     tone(t, hoofglaze_tone_make_flat(0).tone);
     saturator(s, hoofglaze_saturator_make(0, none, none, 0, 0, 0).saturator);
     lone(hoofglaze_follower_make(0.5f, 0.5f).follower, hoofglaze_blocker_make(0.5f).blocker);
+    leveller_paths();
     wave_paths();
     signal(SIGTRAP, SIG_DFL);
 }

@@ -19,12 +19,15 @@
         TRAP("andq $~0x100, (%%rsp)");       \
     }
 
+#define NAME(text) (const uint8_t *)text, sizeof text - 1
+
 /* Begins a call; checks the steps that it took and says whether there is another fill; fills the stack. */
 __attribute__((noinline)) void path_begin(const char *call);
 __attribute__((noinline)) int path_again(void);
 __attribute__((noinline)) void path_fill(void);
 
-/* The calls on recordings. */
+/* The root and the calls on a leveller; the calls on recordings. */
+void leveller_paths(void);
 void wave_paths(void);
 
 #endif

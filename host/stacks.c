@@ -40,6 +40,7 @@ static hoofglaze_gate gate, host_gate;
 static hoofglaze_eq eq;
 static hoofglaze_tone tone;
 static hoofglaze_saturator saturator;
+static hoofglaze_leveller leveller;
 static hoofglaze_follower follower;
 static hoofglaze_blocker blocker;
 static hoofglaze_decibels decibels;
@@ -107,6 +108,9 @@ static void make_states(int good, int model)
     tone.settings.model = (uint32_t)model;
     hoofglaze_saturator_crossover c = {{0.1f, 0.2f, 0.1f, -1, 0.5f}, {0.6f, -1, 0.6f, -1, 0.5f}};
     saturator = hoofglaze_saturator_make(rate, c, c, 0.5f, 0.75f, 0.9f).saturator;
+    leveller = hoofglaze_leveller_make(rate, 0.5f, 0.75f).leveller;
+    leveller.settings.factor.factor = model == 1 ? 1 : 0x1p-14f;
+    leveller.settings.ratio = model == 0 ? 1 : model == 1 ? 2 : 4;
     follower = hoofglaze_follower_make(good ? 0.5f : 1, 0.75f).follower;
     blocker = hoofglaze_blocker_make(good ? 0.5f : 1).blocker;
     eq = hoofglaze_eq_make(rate).equaliser;
@@ -127,7 +131,7 @@ static void draw_operands(void)
 static const char *const names[] = {
     "threshold", "ratio", "attack", "release", "hold", "bass", "mid", "treble", "presence", "low_drive",
     "mid_drive", "high_drive", "low_level", "mid_level", "high_level", "low_freq", "high_freq", "band_0",
-    "band_+00000000000000000015", "band_16", "band_18446744073709551616", "band_x", ""};
+    "band_+00000000000000000015", "band_16", "band_18446744073709551616", "band_x", "makeup", ""};
 static const uint32_t values[] = {0xc2200000, 0x3f000000, 0x40000000, 0x41200000, 0x42c80000,
                                   0x44fa0000, 0x00000000, ODD_NAN,    0x7f7fffff};
 
@@ -202,6 +206,7 @@ static void check_states(void)
     check("eq_block", hoofglaze_eq_block(eq, input, 1, output, 1).answer.number, 0, 0, 0, 0);
     check("tone_block", hoofglaze_tone_block(tone, input, 1, output, 1).answer.number, 0, 0, 0, 0);
     check("saturator_block", hoofglaze_saturator_block(saturator, input, 1, output, 1).answer.number, 0, 0, 0, 0);
+    check("leveller_block", hoofglaze_leveller_block(leveller, input, 1, output, 1).answer.number, 0, 0, 0, 0);
 }
 
 /* The linker may bind the C library's functions at their first call, on the stack of whoever calls. */

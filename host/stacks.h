@@ -9,6 +9,7 @@
 #define TONE_BYTES (sizeof(hoofglaze_tone) + 4)
 #define SATURATOR_BYTES (sizeof(hoofglaze_saturator) + 4)
 #define CROSSOVER_BYTES sizeof(hoofglaze_saturator_crossover)
+#define LEVELLER_BYTES sizeof(hoofglaze_leveller)
 
 #define NAME (const uint8_t *)name, bytes
 #define BUFFERS input, samples, output, places
@@ -16,6 +17,7 @@
 #define SETTINGS(X)                                                                                        \
     X(hoofglaze_fma32, FLOAT, 0, small[0], small[1], small[2])                                             \
     X(hoofglaze_fma64, FLOAT, 0, large[0], large[1], large[2])                                             \
+    X(hoofglaze_root32, FLOAT, 0, small[0])                                                                \
     X(hoofglaze_size32, FLOAT, 0, small[0])                                                                \
     X(hoofglaze_size64, FLOAT, 0, large[0])                                                                \
     X(hoofglaze_truncated, FLOAT, 0, small[0])                                                             \
@@ -73,7 +75,16 @@
     X(hoofglaze_saturator_set_high_freq, SATURATOR, SATURATOR_BYTES + CROSSOVER_BYTES, saturator,          \
       value, crossover)                                                                                    \
     X(hoofglaze_saturator_read, SATURATOR, SATURATOR_BYTES, saturator, NAME)                               \
-    X(hoofglaze_saturator_reset, SATURATOR, SATURATOR_BYTES, saturator)
+    X(hoofglaze_saturator_reset, SATURATOR, SATURATOR_BYTES, saturator)                                    \
+    X(hoofglaze_leveller_make, LEVELLER, 0, rate, worked, worked)                                          \
+    X(hoofglaze_leveller_set, LEVELLER, LEVELLER_BYTES, leveller, NAME, value, worked)                     \
+    X(hoofglaze_leveller_set_threshold, LEVELLER, LEVELLER_BYTES, leveller, decibels, factor)              \
+    X(hoofglaze_leveller_set_ratio, LEVELLER, LEVELLER_BYTES, leveller, value)                             \
+    X(hoofglaze_leveller_set_attack, LEVELLER, LEVELLER_BYTES, leveller, value, worked)                    \
+    X(hoofglaze_leveller_set_release, LEVELLER, LEVELLER_BYTES, leveller, value, worked)                   \
+    X(hoofglaze_leveller_set_makeup, LEVELLER, LEVELLER_BYTES, leveller, factor)                           \
+    X(hoofglaze_leveller_read, LEVELLER, LEVELLER_BYTES, leveller, NAME)                                   \
+    X(hoofglaze_leveller_reset, LEVELLER, LEVELLER_BYTES, leveller)
 
 #define BLOCKS(X)                                                                                          \
     X(hoofglaze_gate_block, GATE, GATE_BYTES, gate, BUFFERS)                                               \
@@ -82,7 +93,8 @@
     X(hoofglaze_clip_triode, CLIP, 0, value, BUFFERS)                                                      \
     X(hoofglaze_eq_block, EQ, EQ_BYTES, eq, BUFFERS)                                                       \
     X(hoofglaze_tone_block, TONE, TONE_BYTES, tone, BUFFERS)                                               \
-    X(hoofglaze_saturator_block, SATURATOR, SATURATOR_BYTES, saturator, BUFFERS)
+    X(hoofglaze_saturator_block, SATURATOR, SATURATOR_BYTES, saturator, BUFFERS)                           \
+    X(hoofglaze_leveller_block, LEVELLER, LEVELLER_BYTES, leveller, BUFFERS)
 
 #define RECORDINGS(X)                                                                                      \
     X(hoofglaze_wave_read, WAVE, 0, file, file_bytes)                                                      \

@@ -147,25 +147,22 @@ void check_strange_names(const struct stage *s, const char *const *names, int co
 
 /* ---- blocks: 7, 8, 6 */
 
-static void refused_blocks(const struct stage *s)
+void check_refused_blocks(const struct stage *s, const void *state)
 {
     static const uint32_t samples[] = {SIXTY_FOUR + 1, SIGN + SIXTY_FOUR + 1, INFINITE, SIGN + INFINITE,
                                        QUIET32, ODD_NAN, INFINITE + 1, INFINITE - 1};
     static const size_t places[] = {0, 1, 77, LONGEST - 1};
-    any_state state;
-    s->draw(&state);
-    for (int i = 0; i < s->registers; i += 3)
-        s->put(&state, s->settings + i, s->wide ? 0xfff0000000054321u : ODD_NAN);
     for (int i = 0; i < COUNT(samples); i++)
         for (int j = 0; j < COUNT(places); j++) {
             quiet_input();
             input[places[j]] = float_of(samples[i]);
-            check_refused(s, &state, places[j] + 1, places[j] + 1, 6, places[j]);
+            check_refused(s, state, places[j] + 1, places[j] + 1, 6, places[j]);
             input[LONGEST - 1] = float_of(j % 2 ? samples[i] : ODD_NAN);
-            check_refused(s, &state, LONGEST, LONGEST, 6, places[j]);
-            check_refused(s, &state, ROOM, ROOM, 8, 0);
-            check_refused(s, &state, LONGEST, places[j], 7, 0);
-            check_refused(s, &state, places[j], ROOM, 7, 0);
+            check_refused(s, state, LONGEST, LONGEST, 6, places[j]);
+            check_refused(s, state, ROOM, ROOM, 8, 0);
+            check_refused(s, state, LONGEST, places[j], 7, 0);
+            check_refused(s, state, places[j], ROOM, 7, 0);
+            check_refused(s, state, ROOM, places[j], 7, 0);
         }
 }
 
@@ -179,7 +176,7 @@ void check_known(const struct stage *s, void *state, const uint32_t answers[KNOW
 
 /* A block that is done, against the formulas; every NaN is the quiet one, and an empty block leaves the
  * registers as they are. */
-static void check_done(const struct stage *s, void *state, size_t samples)
+void check_done(const struct stage *s, void *state, size_t samples)
 {
     any_state said = copy(s, state);
     size_t changed = 0;
@@ -263,6 +260,16 @@ static void kept_states(const struct stage *s)
             wrong += bytes32(output[j]) != bytes32(whole[j]);
         check("a kept state's block", wrong, 0, cut, i, 0);
     }
+}
+
+/* Of a state with odd bits in some registers. */
+static void refused_blocks(const struct stage *s)
+{
+    any_state state;
+    s->draw(&state);
+    for (int i = 0; i < s->registers; i += 3)
+        s->put(&state, s->settings + i, s->wide ? 0xfff0000000054321u : ODD_NAN);
+    check_refused_blocks(s, &state);
 }
 
 void check_blocks(const struct stage *s)

@@ -85,11 +85,19 @@ void check_good_number(const struct stage *s, const void *state, int i, uint64_t
 /* Names that are no setting: refused by 1 before 3. */
 void check_strange_names(const struct stage *s, const char *const *names, int count);
 
-/* The Rust's answers, as bits, to ten samples: 1, 0.5, -0.25, 0, -0, 64, -64, 1e-40, 0.75, -0.0001. */
+/* Answers of the Rust, or of exact arithmetic, as bits, to ten samples: 1, 0.5, -0.25, 0, -0, 64, -64, 1e-40,
+ * 0.75, -0.0001. */
 enum { KNOWN = 10 };
 void check_known(const struct stage *s, void *state, const uint32_t answers[KNOWN]);
 
-/* Refused blocks, blocks against the formulas, NaNs and infinities in each register, kept states. */
+/* A block that is done, against the formulas; what lies behind its output stays. */
+void check_done(const struct stage *s, void *state, size_t samples);
+
+/* Blocks of the state that are refused by 7, 8, 6. */
+void check_refused_blocks(const struct stage *s, const void *state);
+
+/* Refused blocks, blocks against the formulas, NaNs and infinities in each register, kept states: of a stage
+ * whose registers may hold any bits. */
 void check_blocks(const struct stage *s);
 
 #endif

@@ -1,8 +1,9 @@
-/* The stages' blocks in C over host/steps, offered with the fused multiply-add that the file which includes
- * this names. What a block looks at once, 9 and the clipper's 3, is left out. */
+/* The stages' blocks in C over host/steps, offered with the fused multiply-add and the root that the file
+ * which includes this names. What a block looks at once, 9 and the clipper's 3, is left out. */
 #include "steps/clipper.h"
 #include "steps/eq.h"
 #include "steps/gate.h"
+#include "steps/leveller.h"
 #include "steps/saturator.h"
 #include "steps/tone.h"
 
@@ -103,6 +104,16 @@ static hoofglaze_saturator_answered saturator_block(hoofglaze_saturator s, const
     return (hoofglaze_saturator_answered){s, a};
 }
 
+static hoofglaze_leveller_answered leveller_block(hoofglaze_leveller l, const float *input, size_t samples,
+                                                  float *output, size_t places)
+{
+    hoofglaze_answer a = looked_at(input, samples, places);
+    for (size_t i = 0; a.number == 0 && i < samples; i++)
+        output[i] = leveller_step(&l.settings, &l.registers, input[i]);
+    return (hoofglaze_leveller_answered){l, a};
+}
+
 const struct offer OFFER = {
-    follower_step, blocker_step, gate_block, clip_hard, clip_triode, eq_block, tone_block, saturator_block,
+    follower_step, blocker_step, gate_block,      clip_hard,      clip_triode,
+    eq_block,      tone_block,   saturator_block, leveller_block,
 };

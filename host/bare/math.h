@@ -10,3 +10,4 @@ double sin(double x);
 double cos(double x);
 double sinh(double x);
 double sqrt(double x);
+float sqrtf(float x);

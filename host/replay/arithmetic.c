@@ -14,6 +14,7 @@ static uint64_t float_answer(uint8_t operation, const float x[3], const double u
     case 7: return bytes64(hoofglaze_size64(u[0]));
     case 8: return hoofglaze_bits32(hoofglaze_from_bits32((uint32_t)bits));
     case 9: return hoofglaze_bits64(hoofglaze_from_bits64(bits));
+    case 10: return bytes32(hoofglaze_root32(x[0]));
     default: return UINT64_MAX;
     }
 }

@@ -16,6 +16,7 @@ static const struct {
     {"eq", eq_next},
     {"tonestack", tone_next},
     {"multiband_saturator", saturator_next},
+    {"leveller", leveller_next},
     {"wave", wave_next},
     {"wave_write", wave_write_next},
 };
@@ -54,7 +55,7 @@ int main(int count, char **words)
     for (unsigned i = 0; count == 2 && i < sizeof stages / sizeof *stages; i++)
         if (strcmp(words[1], stages[i].name) == 0)
             return replayed(stages[i].next);
-    failed("it takes a stage: float, common, clipper, noise_gate, eq, tonestack, multiband_saturator, wave, "
-           "wave_write");
+    failed("it takes a stage: float, common, clipper, noise_gate, eq, tonestack, multiband_saturator, "
+           "leveller, wave, wave_write");
     return 2;
 }

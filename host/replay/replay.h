@@ -14,6 +14,7 @@ int gate_next(void);
 int eq_next(void);
 int tone_next(void);
 int saturator_next(void);
+int leveller_next(void);
 int wave_next(void);
 int wave_write_next(void);
 

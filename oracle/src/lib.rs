@@ -1,8 +1,8 @@
 //! The oracle: what the stages answer, from the Rust as it stands and from document 01.
 //!
 //! Each stage that has lists has a module here, with a model written from document 01, the Rust stage with
-//! worked numbers lent, and a generator of call lists; [`stages::named`] finds it. The reader and the writer
-//! of WAVE files have models written from document 02 alone.
+//! worked numbers lent, and a generator of call lists; [`stages::named`] finds it. The leveller's model is
+//! written from document 02. So are those of the reader and the writer of WAVE files, which have no Rust.
 pub mod bits;
 pub mod calls;
 pub mod clipper;
@@ -11,7 +11,9 @@ pub mod compare;
 pub mod eq;
 pub mod exact;
 pub mod float;
+pub mod gap;
 pub mod gate;
+pub mod leveller;
 pub mod limits;
 pub mod numbers;
 pub mod power;

@@ -2,6 +2,8 @@
 
 pub const LARGEST_SAMPLE: f32 = 64.0;
 pub const LONGEST_BLOCK: usize = 4096;
+/// 2^-14.
+pub const LOWEST_FACTOR: f32 = 1.0 / 16384.0;
 
 pub fn is_rate(rate: f32) -> bool {
     (8_000.0..=192_000.0).contains(&rate) && rate.fract() == 0.0
@@ -10,6 +12,11 @@ pub fn is_rate(rate: f32) -> bool {
 /// A smoothing number, a follower's or a blocker's: from 0 up to, excluding, 1.
 pub fn is_smoothing(c: f32) -> bool {
     (0.0..1.0).contains(&c)
+}
+
+/// A threshold's linear factor.
+pub fn is_threshold_factor(factor: f32) -> bool {
+    (LOWEST_FACTOR..=1.0).contains(&factor)
 }
 
 pub fn is_refused(sample: f32) -> bool {

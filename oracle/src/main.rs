@@ -1,6 +1,7 @@
 //! The oracle's commands. Lists and answers are the bytes that a replay reads and writes.
 use oracle::{
     compare::{compare, hold},
+    gap, power,
     random::Random,
     replay::Replay,
     stages,
@@ -16,7 +17,8 @@ oracle make STAGE                          writes the list that is stored
 oracle answer STAGE                        reads a list and writes the answers
 oracle generate STAGE SEED CASES           writes a new list, of CASES of each kind
 oracle hold STAGE PROGRAM..                reads a list and compares a program on it
-oracle compare STAGE SEED CASES PROGRAM..  compares a program on new lists";
+oracle compare STAGE SEED CASES PROGRAM..  compares a program on new lists
+oracle gap                                 measures a leveller's gain against the C library's power";
 
 fn main() -> ExitCode {
     let words: Vec<String> = std::env::args().skip(1).collect();
@@ -43,6 +45,13 @@ fn run(words: &[String]) -> Result<(), String> {
         }
         ["compare", stage, seed, cases, ref program @ ..] if !program.is_empty() => {
             report(stage, number(seed)?, number(cases)?, program)
+        }
+        ["gap"] => {
+            println!("powf of {}", power::c_library());
+            for ratio in [2.0, 4.0] {
+                println!("{}", gap::measured(ratio));
+            }
+            Ok(())
         }
         _ => Err(format!("it is called so:\n{USAGE}")),
     }

@@ -1,5 +1,8 @@
 //! Numbers that a state holds: those that are accepted, their limits among them, and those that are not.
-use crate::{limits::LARGEST_SAMPLE, random::Random};
+use crate::{
+    limits::{LARGEST_SAMPLE, LOWEST_FACTOR},
+    random::Random,
+};
 
 /// The next float above.
 pub const fn above(x: f32) -> f32 {
@@ -93,6 +96,21 @@ pub fn smoothing(random: &mut Random) -> f32 {
         4 => 0.0,
         _ => random.below(1 << 20) as f32 / (1 << 20) as f32,
     }
+}
+
+/// A threshold's linear factor: a limit, or of any exponent that it can have.
+pub fn threshold_factor(random: &mut Random) -> f32 {
+    let (low, high) = (LOWEST_FACTOR.to_bits(), 1f32.to_bits());
+    match random.below(8) {
+        0 => LOWEST_FACTOR,
+        1 => 1.0,
+        _ => f32::from_bits(low + random.below(u64::from(high - low) + 1) as u32),
+    }
+}
+
+/// A follower's level in the middle of the work.
+pub fn level(random: &mut Random) -> f32 {
+    within(0.0, LARGEST_SAMPLE, random) * random.pick(&[1.0, 1.0 / 64.0, 1e-6, 1e-40])
 }
 
 pub fn rate(random: &mut Random) -> f32 {

@@ -6,6 +6,9 @@ use crate::{
     random::Random,
 };
 
+/// Sizes that are loud to a stage that has no threshold.
+pub const LOUD: [f32; 4] = [1.0, 0.125, 1e-4, 8.0];
+
 type Signal = fn(f32, usize, &mut Random) -> Vec<f32>;
 
 const SIGNALS: [Signal; 8] = [
@@ -45,7 +48,7 @@ fn around(loud: f32, random: &mut Random) -> f32 {
 }
 
 /// Speech: words of loud noise, and gaps of nothing, or of little, between them.
-fn bursts(loud: f32, length: usize, random: &mut Random) -> Vec<f32> {
+pub fn bursts(loud: f32, length: usize, random: &mut Random) -> Vec<f32> {
     let mut samples = Vec::with_capacity(length);
     while samples.len() < length {
         let top = around(loud, random).max(loud);

@@ -1,9 +1,9 @@
 //! The stages that have lists, by name. The lists of `program` are those of `crates/gate`; the others' are
 //! `oracle/lists/NAME.calls`.
 use crate::{
-    clipper::Clipper, common::Common, eq::Eq, float::Float, gate::NoiseGate, program::Program,
-    replay::Replay, saturator::MultibandSaturator, tonestack::ToneStack, wave::Wave,
-    wave_write::WaveWrite,
+    clipper::Clipper, common::Common, eq::Eq, float::Float, gate::NoiseGate,
+    leveller::LevellerStage, program::Program, replay::Replay, saturator::MultibandSaturator,
+    tonestack::ToneStack, wave::Wave, wave_write::WaveWrite,
 };
 
 pub fn named(name: &str) -> Option<&'static dyn Replay> {
@@ -15,6 +15,7 @@ pub fn named(name: &str) -> Option<&'static dyn Replay> {
         "eq" => Some(&Eq::NEW),
         "tonestack" => Some(&ToneStack::NEW),
         "multiband_saturator" => Some(&MultibandSaturator::NEW),
+        "leveller" => Some(&LevellerStage::NEW),
         "program" => Some(&Program),
         "wave" => Some(&Wave),
         "wave_write" => Some(&WaveWrite),

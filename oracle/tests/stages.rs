@@ -4,7 +4,7 @@ use rustortion_core::amp::stages::{
     Stage,
     clipper::{ClipperType, triode_table},
     common::{BlockerNumbers, DcBlocker, EnvelopeFollower, FollowerNumbers},
-    compressor::CompressorStage,
+    compressor::{CompressorFactors, CompressorStage},
     eq::{BandNumbers, EqStage},
     filter::{FilterStage, FilterType},
     multiband_saturator::{CrossoverNumbers, DynamicsNumbers, MultibandSaturatorStage},
@@ -133,7 +133,12 @@ fn clippers_clip() {
 #[test]
 fn a_compressor_takes_a_lent_power() {
     let mut compressor = CompressorStage::new(1.0, 100.0, 0.0, 2.0, 0.0, 48_000.0);
-    compressor.lend_factors(0.25, 2.0);
+    let factors = CompressorFactors {
+        threshold: 0.25,
+        makeup: 2.0,
+    };
+    compressor.lend_factors(factors);
+    assert_eq!(compressor.factors(), factors);
     compressor.lend_follower(FollowerNumbers {
         attack: 0.0,
         release: 0.0,
@@ -142,6 +147,34 @@ fn a_compressor_takes_a_lent_power() {
     let root = |over: f32, _: f32| 1.0 / over.sqrt();
     assert_eq!(with_power(root, || compressor.process(1.0)), 1.0);
     assert_eq!(compressor.follower().level, 1.0);
+}
+
+/// The power's exponent is 0 there.
+#[test]
+fn a_compressor_at_ratio_1_needs_no_power() {
+    let mut compressor = CompressorStage::new(1.0, 100.0, 0.0, 1.0, 0.0, 48_000.0);
+    compressor.lend_factors(CompressorFactors {
+        threshold: 0.1,
+        makeup: 0.5,
+    });
+    compressor.lend_follower(FollowerNumbers {
+        attack: 0.5,
+        release: 0.25,
+        level: 1.0,
+    });
+    assert_eq!(compressor.process(-3.0), -1.5);
+    assert_eq!(compressor.follower().level, 2.0);
+}
+
+/// Ranges that are not document 02's.
+#[test]
+fn a_compressor_has_ranges_of_its_own() {
+    let mut compressor = CompressorStage::new(1.0, 100.0, 0.0, 1.0, 0.0, 48_000.0);
+    let mut takes = |name, value| compressor.set_parameter(name, value).is_ok();
+    assert!(takes("threshold", -60.0) && !takes("threshold", -60.1));
+    assert!(takes("ratio", 3.0) && takes("ratio", 20.0) && !takes("ratio", 20.1));
+    assert!(takes("release", 10.0) && !takes("release", 9.9));
+    assert!(takes("makeup", -12.0) && takes("makeup", 24.0) && !takes("makeup", 24.1));
 }
 
 /// The stages that nothing is carried over from run too.

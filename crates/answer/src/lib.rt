@@ -35,6 +35,13 @@ pub struct Decibels(pub f32);
 #[repr(C)]
 pub struct Factor(pub f32);
 
+// A time in milliseconds, and its smoothing number.
+#[repr(C)]
+pub struct Timed {
+    pub ms: f32,
+    pub number: f32,
+}
+
 // What making, setting and reset answer, and a block where it has no more to say.
 pub enum Answer {
     Done,

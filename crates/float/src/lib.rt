@@ -1,6 +1,6 @@
 // Float arithmetic as document 01 has it: fused multiply-add in both widths, size, truncation,
-// `f64` to `f32` and back, and bits. Every function is total, and every NaN that it returns is the
-// quiet 7FC00000 or 7FF8000000000000.
+// `f64` to `f32` and back, and bits; and document 02's root. Every function is total, and every NaN
+// that it returns is the quiet 7FC00000 or 7FF8000000000000.
 mod casts;
 
 pub use bits::bits32;
@@ -17,6 +17,7 @@ pub use casts::widened;
 ghost use mathlib.Core.Path.{_≡_};
 ghost use lib.Ieee.{binary32, binary64};
 ghost use Rattle.rounding.specs.Fma.{fma};
+ghost use Rattle.root.specs.Root as Root;
 
 // a * b + c, the product exact and one rounding.
 pub fn fma32(a: f32, b: f32, c: f32) -> f32
@@ -29,4 +30,11 @@ pub fn fma64(a: f64, b: f64, c: f64) -> f64
     ensures { λ r. ⌜ r ≡ fma binary64 a b c ⌝ }
 {
     double::fma(a, b, c)
+}
+
+// The nearest square root: zeros keep their sign, and below zero there is none.
+pub fn root32(x: f32) -> f32
+    ensures { λ r. ⌜ r ≡ Root.root binary32 x ⌝ }
+{
+    root::root(x)
 }

@@ -4,6 +4,7 @@ ghost use mathlib.Core.Path.{_≡_};
 ghost use lib.Ieee.{binary32, binary64, ofBits, toBits, toUnsigned};
 ghost use Rattle.rounding.specs.Fma.{fma};
 ghost use Rattle.rounding.specs.Casts.{narrow, absolute};
+ghost use Rattle.root.specs.Root.{root};
 
 #[no_mangle]
 pub extern "C" fn hoofglaze_fma32(a: f32, b: f32, c: f32) -> f32
@@ -17,6 +18,13 @@ pub extern "C" fn hoofglaze_fma64(a: f64, b: f64, c: f64) -> f64
     ensures { λ r. ⌜ r ≡ fma binary64 a b c ⌝ }
 {
     float::fma64(a, b, c)
+}
+
+#[no_mangle]
+pub extern "C" fn hoofglaze_root32(x: f32) -> f32
+    ensures { λ r. ⌜ r ≡ root binary32 x ⌝ }
+{
+    float::root32(x)
 }
 
 #[no_mangle]

@@ -5,6 +5,7 @@ pub mod clip;
 pub mod equalise;
 pub mod gate;
 pub mod gate_in_place;
+pub mod levelling;
 pub mod lone;
 pub mod recording;
 pub mod saturator;

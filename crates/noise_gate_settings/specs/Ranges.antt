@@ -6,9 +6,9 @@ use Rattle.answer.specs.Figures.{f32, nought, one}
 use Rattle.answer.specs.Checks.{inRange, isRate, isSmoothing}
 use Rattle.answer.specs.declared.Decibels.{Decibels}
 use Rattle.answer.specs.declared.Factor.{Factor}
+use Rattle.answer.specs.declared.Timed.{Timed}
 use Rattle.noise_gate_settings.specs.Figures.{longestHold}
 use Rattle.noise_gate_settings.specs.declared.Settings.{Settings}
-use Rattle.noise_gate_settings.specs.declared.Timed.{Timed}
 use Rattle.noise_gate_settings.specs.declared.Setting.{Setting}
 use Rattle.noise_gate_settings.specs.declared.Setting.the-variants.{Threshold, Ratio, Attack, Release, Hold}
 

@@ -4,19 +4,13 @@ mod ranges;
 
 use answer::Decibels;
 use answer::Factor;
+use answer::Timed;
 pub use names::find;
 pub use names::kept;
 pub use ranges::in_its_range;
 pub use ranges::settable;
 pub use ranges::with_setting;
 pub use ranges::worked;
-
-// A time in milliseconds, and its smoothing number.
-#[repr(C)]
-pub struct Timed {
-    pub ms: f32,
-    pub number: f32,
-}
 
 // What a host sets. `factor` is the threshold's, `hold` is in milliseconds; `rising` and `falling` are the
 // follower's smoothing numbers.

@@ -1,9 +1,9 @@
 // What a setting may be and what it changes.
 use crate::Setting;
 use crate::Settings;
-use crate::Timed;
 use answer::Decibels;
 use answer::Factor;
+use answer::Timed;
 use answer::both;
 use answer::settled32;
 ghost use mathlib.Core.Path.{_≡_};

@@ -1,5 +1,6 @@
 -- The promises' proofs, a page a stage.
 mod Order
+mod Apart
 pub mod Shared
 pub mod Lone
 pub mod NoiseGate
@@ -8,4 +9,5 @@ pub mod Clipper
 pub mod Equaliser
 pub mod ToneStack
 pub mod Saturator
+pub mod Leveller
 pub mod Signal

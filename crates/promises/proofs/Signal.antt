@@ -14,6 +14,8 @@ use Rattle.eq.specs.Calls as eq
 use Rattle.tonestack.specs.Calls as tonestack
 use Rattle.multiband_saturator_settings.specs.Ranges as saturator-ranges
 use Rattle.multiband_saturator.specs.Calls as saturator
+use Rattle.leveller.specs.Bounds as leveller-bounds
+use Rattle.leveller.specs.Calls as leveller
 use Rattle.clipper.specs.Process.{process}
 use Rattle.clipper.specs.Block as clipper
 use Rattle.clipper.specs.declared.Kind.{Kind}
@@ -51,6 +53,13 @@ multiband =
     (stage saturator.saturatorOf (λ s. s .settings) (λ s. s .registers) (λ _ _. refl) (λ _ _. refl) (λ _. refl) _ _ (λ _ _ _. 0) (λ _ _. refl) (λ _ _ _ _. refl))
     (λ s. saturator-ranges.settable (s .settings))
 
+levelling : AnyCut leveller.block
+unfolding leveller.block
+levelling =
+    checked-cut
+    (stage leveller.levellerOf (λ l. l .settings) (λ l. l .registers) (λ _ _. refl) (λ _ _. refl) (λ _. refl) _ _ (λ _ _ _. 0) (λ _ _. refl) (λ _ _ _ _. refl))
+    leveller-bounds.acceptable
+
 -- ---- the clipper takes each sample by itself
 module _ (kind : Kind) (drive : Float) where
   processed-parts : (xs ys : List Float) → clipper.processed kind drive (xs ++ ys) ≡ clipper.processed kind drive xs ++ clipper.processed kind drive ys
@@ -72,5 +81,6 @@ signals = record {
   equaliser = equaliser;
   tone-stack = tone-stack;
   saturator = multiband;
+  leveller = levelling;
   clipper = λ kind drive bs cs d e same. clipped-is kind drive bs d ∙ ap (clipper.processed kind drive) same ∙ sym (clipped-is kind drive cs e);
 }

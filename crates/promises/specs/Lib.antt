@@ -7,4 +7,6 @@ pub mod Clipper
 pub mod Equaliser
 pub mod ToneStack
 pub mod Saturator
+pub mod LevellerCalls
+pub mod Leveller
 pub mod Signal

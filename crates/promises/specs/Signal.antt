@@ -9,6 +9,7 @@ use Rattle.noise_gate.specs.Calls as gate
 use Rattle.eq.specs.Calls as eq
 use Rattle.tonestack.specs.Calls as tonestack
 use Rattle.multiband_saturator.specs.Calls as saturator
+use Rattle.leveller.specs.Calls as leveller
 use Rattle.clipper.specs.Block as clipper
 use Rattle.clipper.specs.declared.Kind.{Kind}
 
@@ -64,4 +65,5 @@ pub record Signals : Type 0 where
   pub equaliser : AnyCut eq.block
   pub tone-stack : AnyCut tonestack.block
   pub saturator : AnyCut saturator.block
+  pub leveller : AnyCut leveller.block
   pub clipper : (kind : Kind) (drive : Float) (bs cs : List Lent) → AllClipped kind drive bs → AllClipped kind drive cs → joined bs ≡ joined cs → clipped kind drive bs ≡ clipped kind drive cs

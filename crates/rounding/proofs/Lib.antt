@@ -3,15 +3,18 @@
 -- The face. What other crates and requests may ask of rounding: it keeps what fits, keeps order, is off by half a step at most; and `fma` grows with each operand.
 -- Each is one line over the next group: read this file first, and that group for the proofs.
 pub mod Laws
--- Sizes. `Snap` rounds whole numbers to p digits and then zeros, with no floats in sight; `Units` shows that `round` is `snap` on a float's size, counted in its format's smallest value.
+-- Sizes. `Snap` rounds whole numbers to p digits and then zeros, with no floats in sight, and `Nearest` shows that no such number is nearer; `Units` shows that `round` is `snap` on a float's size, counted in its format's smallest value.
 -- `Sizes` carries that to order and to each operation on values that are not below zero.
 pub mod Snap
+pub mod Nearest
 pub mod Units
 pub mod Sizes
--- Steps of the gate. `Towards` moves one whole number towards another by a smoothing number: closing falls, opening never does, nothing leaves its bounds.
--- `Smoothing` says the same of floats, rounding included: the gate's state and gain, the follower, the output.
+-- Steps of the gate and of the leveller. `Towards` moves one whole number towards another by a smoothing number: closing falls, opening never does, nothing leaves its bounds.
+-- `Smoothing` says the same of floats, rounding included: the gate's state and gain, the follower, the output. `Gains` has gains that are 1 divided by something, `Scaled` numbers by a factor.
 pub mod Towards
 pub mod Smoothing
+pub mod Gains
+pub mod Scaled
 -- The odd digit. `Closest` has the nearest whole number from a quotient and a rest; `Sticky` a number cut to an odd one, which stands for all that was cut off.
 -- `Round` shows that rounding such a number rounds the whole fraction, so that 62 or 124 digits are enough for any sum.
 pub mod Closest

@@ -59,7 +59,7 @@ nought-at f = (tt, zero-mul (U f) ∙ refl)
 one-at : (f : Format) → At f one (U f)
 one-at f = (tt, one-mul (U f) ∙ sym (mul-one (U f)))
 
-sixty-four-at : (f : Format) → At f sixty-four (2 ^ 6 * U f)
+pub sixty-four-at : (f : Format) → At f sixty-four (2 ^ 6 * U f)
 sixty-four-at f = (tt, sym (mul-one (2 ^ 6 * U f)))
 
 tiny-at : (f : Format) → At f (tiny f) (2 ^ (prec f - 1))
@@ -91,7 +91,7 @@ plus-of (inf false) (fin t n d) h k g = absurd k
 plus-of (fin false m e) y h k g = tt
 plus-of (fin true m e) y h k g = eq→eqb (no-size m (up e) 1 0 1 (up-pos e) (pow-pos 0) (sym (eqb→eq (0 * down e) (m * up e * 1) (and-l (eqb (0 * down e) (m * up e * 1)) (eqb (0 * down e) 0) h)) ∙ zero-mul (down e)) refl)
 
-plus-finite : (x : Float) → T (plus x) → T (finite x)
+pub plus-finite : (x : Float) → T (plus x) → T (finite x)
 plus-finite nan p = absurd p
 plus-finite (inf s) p = absurd p
 plus-finite (fin s m e) p = tt
@@ -125,7 +125,7 @@ pub record Within (y x : Float) : Type 0 where
   pub above : T (le nought x)
   pub below : T (le x y)
 
-within : (f : Format) (x y : Float) (n b : ℕ) → At f x n → At f y b → n ≤ b → Within y x
+pub within : (f : Format) (x y : Float) (n b : ℕ) → At f x n → At f y b → n ≤ b → Within y x
 within f x y n b h k g = record { above = le-of-sizes f nought x 0 n tt (h .0) (nought-at f .1) (h .1) zero-le; below = le-of-sizes f x y n b (h .0) (k .0) (h .1) (k .1) g }
 
 -- ---- closing, s' = c * s + z, for a z that is zero, of either sign
@@ -159,7 +159,7 @@ module _ (f : Format) (c s y z : Float) (b : ℕ) (ic : In f one c) (is : In f y
       (closes-strictly (prec f) (gap f) (prec-pos f) (cs .at) (ss .at) (cs .rep) (sizes-of-lt f c one (cs .at) (U f) (cs .is .0) tt (cs .is .1) (one-at f .1) l) (sizes-of-lt f (tiny f) s (2 ^ (prec f - 1)) (ss .at) tt (ss .is .0) (tiny-at f .1) (ss .is .1) g))
 
 -- ---- 1 - c
-unit-fine : (f : Format) (n : ℕ) → n ≤ 2 ^ 6 * U f → n < overflow f
+pub unit-fine : (f : Format) (n : ℕ) → n ≤ 2 ^ 6 * U f → n < overflow f
 unit-fine f n h = lt-of-le-of-lt h (room f)
 
 unit-le : (f : Format) (n : ℕ) → n ≤ U f → n ≤ 2 ^ 6 * U f
@@ -258,18 +258,24 @@ gain-within f g s ig is =
     let ss = sized f s one (U f) is (one-at f) in
     within f (fma f (sub f one g) s g) one (snap (prec f) (rest f (gs .at) * ss .at + gs .at * U f) (U f)) (U f) (gain-at f g s (gs .at) (ss .at) (gs .is) (ss .is) (gs .most) (ss .most)) (one-at f) (mixes-le f (gs .at) (ss .at) (gs .most) (ss .most))
 
--- 1 / ratio, for a finite ratio of 1 or more, is in [0, 1]
-pub share : (f : Format) (n : ℕ) (d : ℤ) → T (fits f (fin false n d)) → T (le one (fin false n d)) → In f one (div f one (fin false n d))
-share f n d h l =
-    let k = known f (fin false n d) h tt in
-    let u : U f ≤ k .at = sizes-of-le f one (fin false n d) (U f) (k .at) tt tt (one-at f .1) (k .is) l in
-    let b : snap (prec f) (U f * U f) (k .at) ≤ U f = snap-below (prec f) (U f) (U f * U f) (k .at) (prec-pos f) (rep-pow (prec f) (prec f + gap f) (prec-pos f)) (lt-of-lt-of-le (pow-pos (prec f + gap f)) u) (mul-le-mul-left (U f) u) in
-    let r = div-at f one n d (U f) (k .at) (one-at f) (k .is) (lt-of-lt-of-le (pow-pos (prec f + gap f)) u) (unit-fine f (snap (prec f) (U f * U f) (k .at)) (unit-le f (snap (prec f) (U f * U f) (k .at)) b)) in
-    let w = within f (div f one (fin false n d)) one (snap (prec f) (U f * U f) (k .at)) (U f) r (one-at f) b in
+-- 1 / ratio, for a finite ratio of b units, which is 1 or more, is in [0, 1]
+pub inverse-at : (f : Format) (n : ℕ) (d : ℤ) (b : ℕ) → Size f (fin false n d) b → U f ≤ b → At f (div f one (fin false n d)) (snap (prec f) (U f * U f) b) × (snap (prec f) (U f * U f) b ≤ U f)
+inverse-at f n d b h l =
+    let B : 0 < b = lt-of-lt-of-le (pow-pos (prec f + gap f)) l in
+    let most : snap (prec f) (U f * U f) b ≤ U f = snap-below (prec f) (U f) (U f * U f) b (prec-pos f) (rep-pow (prec f) (prec f + gap f) (prec-pos f)) B (mul-le-mul-left (U f) l) in
+    (div-at f one n d (U f) b (one-at f) h B (unit-fine f (snap (prec f) (U f * U f) b) (unit-le f (snap (prec f) (U f * U f) b) most)), most)
+
+pub inverse-in : (f : Format) (n : ℕ) (d : ℤ) (b : ℕ) → Size f (fin false n d) b → U f ≤ b → In f one (div f one (fin false n d))
+inverse-in f n d b h l =
+    let r = inverse-at f n d b h l in
+    let w = within f (div f one (fin false n d)) one (snap (prec f) (U f * U f) b) (U f) (r .0) (one-at f) (r .1) in
     record { fit = div-fits f one (fin false n d); above = w .above; below = w .below }
 
+pub share : (f : Format) (n : ℕ) (d : ℤ) → T (fits f (fin false n d)) → T (le one (fin false n d)) → In f one (div f one (fin false n d))
+share f n d h l = let k = known f (fin false n d) h tt in inverse-in f n d (k .at) (k .is) (sizes-of-le f one (fin false n d) (U f) (k .at) tt tt (one-at f .1) (k .is) l)
+
 -- x times a gain in [0, 1] is no larger than x in size
-absolute-at : (f : Format) (x : Float) (n : ℕ) → Size f x n → At f (absolute x) n
+pub absolute-at : (f : Format) (x : Float) (n : ℕ) → Size f x n → At f (absolute x) n
 unfolding absolute
 absolute-at f nan n h = absurd h
 absolute-at f (inf s) n h = absurd h

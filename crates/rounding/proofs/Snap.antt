@@ -63,12 +63,15 @@ kept-le p n d =
 all-in-use : (z p : ℕ) → 0 < p → 0 < z - p → p - 1 + (z - p) < z
 all-in-use z p P h = omega arith
 
+-- where digits are dropped, p others are in use
+pub in-use : (p n d : ℕ) → 0 < p → 0 < drop p n d → 2 ^ (p - 1) * 2 ^ drop p n d ≤ n / d
+in-use p n d P K = let k = drop p n d in rw (pow-add 2 (p - 1) k) at (size-reaches (n / d) (p - 1 + k) (all-in-use (size (n / d)) p P K))
+
 pub kept-ge : (p n d : ℕ) → 0 < p → 0 < drop p n d → 2 ^ (p - 1) ≤ kept p n d
 kept-ge p n d P K =
     let k = drop p n d in
     let u = d * 2 ^ k in
-    let a : 2 ^ (p - 1) * 2 ^ k ≤ n / d = rw (pow-add 2 (p - 1) k) at (size-reaches (n / d) (p - 1 + k) (all-in-use (size (n / d)) p P K)) in
-    le-trans (rw (div-div-eq-div-mul n d (2 ^ k)) at (le-div-iff-mul-le (pow-pos k) .1 a)) (nearest-ge (n / u) (compare (n % u * 2) u))
+    le-trans (rw (div-div-eq-div-mul n d (2 ^ k)) at (le-div-iff-mul-le (pow-pos k) .1 (in-use p n d P K))) (nearest-ge (n / u) (compare (n % u * 2) u))
 
 -- ---- the order is kept
 same-drop : (k a b c d : ℕ) → 0 < b → 0 < d → a * d ≤ c * b → closest a (b * 2 ^ k) * 2 ^ k ≤ closest c (d * 2 ^ k) * 2 ^ k
@@ -150,13 +153,17 @@ snap-is-rep p n d P = elim (eq-or-lt-of-le (kept-le p n d)) [
   | inr l ↦ record { digits = kept p n d; shift = drop p n d; few = l; is = refl }
 ]
 
+-- a multiple of each power of two up to its own
+pub rep-part : (p m k : ℕ) (r : Rep p m) → k ≤ r .shift → m ≡ r .digits * 2 ^ (r .shift - k) * 2 ^ k
+rep-part p m k r h = r .is ∙ ap (λ (x : ℕ). r .digits * x) (sym (pow-part (r .shift) k h)) ∙ sym (mul-assoc (r .digits) (2 ^ (r .shift - k)) (2 ^ k))
+
 -- ---- below 2 ^ (p + j) a number of at most p digits leaves a step of 2 ^ j
 pub rep-gap : (p m j : ℕ) → Rep p m → m < 2 ^ (p + j) → m + 2 ^ j ≤ 2 ^ p * 2 ^ j
 rep-gap p m j r h = elim (le-or-lt (r .shift) j) [
   | inl g ↦ le-trans (omega (arith, r .is, mul-le-mul-left (r .digits) (pow-mono g))) (mul-le-mul-right (2 ^ j) (r .few))
   | inr g ↦
       let t = r .digits * 2 ^ (r .shift - j) in
-      let e : m ≡ t * 2 ^ j = r .is ∙ ap (λ (x : ℕ). r .digits * x) (sym (pow-part (r .shift) j (le-of-lt g))) ∙ sym (mul-assoc (r .digits) (2 ^ (r .shift - j)) (2 ^ j)) in
+      let e : m ≡ t * 2 ^ j = rep-part p m j r (le-of-lt g) in
       let b : t < 2 ^ p = lt-of-mul-lt-mul-right (2 ^ j) (subst (λ (x : ℕ). x < 2 ^ p * 2 ^ j) e (rw (pow-add 2 p j) at h)) in
       le-trans (omega (arith, e)) (mul-le-mul-right (2 ^ j) b)
 ]

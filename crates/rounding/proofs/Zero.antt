@@ -19,7 +19,7 @@ use Rattle.rounding.proofs.Values.{add-at, product-value}
 use Rattle.rounding.proofs.Terms.{round-zero, fma-plain}
 
 -- the pattern of a zero
-nought : (f : Format) (s : Bool) → ofBits f (cond s (top f) 0 + 0) ≡ fin s 0 (pos 0)
+pub nought : (f : Format) (s : Bool) → ofBits f (cond s (top f) 0 + 0) ≡ fin s 0 (pos 0)
 unfolding ofBits
 nought binary32 true = refl
 nought binary32 false = refl
@@ -54,7 +54,7 @@ pub is-zero : (f : Format) (x : Float) → eq x (ofBits f 0) ≡ true → Zero x
 is-zero f x h = eq-nought x (sym (ap (eq x) (nought f false)) ∙ h)
 
 -- x == 0.0 did not hold
-nought-eq : (s : Bool) (e : ℤ) → eq (fin s 0 e) (fin false 0 (pos 0)) ≡ true
+pub nought-eq : (s : Bool) (e : ℤ) → eq (fin s 0 e) (fin false 0 (pos 0)) ≡ true
 unfolding eq
 nought-eq true e = simp (zero-mul)
 nought-eq false e = simp (zero-mul)

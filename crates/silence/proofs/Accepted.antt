@@ -65,10 +65,10 @@ set-settable s (Release t c) a w = search
 set-settable s (Hold t) a w = search
 
 -- ---- their numbers
-only : (x : Float) → T (allF32 (x ∷ [])) → F32 x
+pub only : (x : Float) → T (allF32 (x ∷ [])) → F32 x
 only x t = and-l (fits binary32 x) true t
 
-second : (x y : Float) → T (allF32 (x ∷ y ∷ [])) → F32 y
+pub second : (x y : Float) → T (allF32 (x ∷ y ∷ [])) → F32 y
 second x y t = only y (and-r (fits binary32 x) (allF32 (y ∷ [])) t)
 
 pub record Smoothing (c : Float) : Type 0 where

@@ -37,11 +37,11 @@ use Rattle.silence.proofs.Accepted.{F32, Settable, Bounded, made-settab
 use Rattle.silence.proofs.OneSample.{either, next-bounded}
 
 -- ---- the samples of a block that is done
-abbrev WithinRange : List Float → Type 0
+abbrev pub WithinRange : List Float → Type 0
 WithinRange [] = Unit {0}
 WithinRange (x ∷ xs) = T (le (absolute x) sixty-four) × WithinRange xs
 
-within : (xs : List Float) → ((i : ℕ) → i < length xs → isRefused (getD xs i nan) ≡ false) → WithinRange xs
+pub within : (xs : List Float) → ((i : ℕ) → i < length xs → isRefused (getD xs i nan) ≡ false) → WithinRange xs
 unfolding f32
 within [] h = tt
 within (x ∷ xs) h = (accepted-size x (h 0 (suc-le-suc zero-le)), within xs (λ i l. h (suc i) (suc-le-suc l)))

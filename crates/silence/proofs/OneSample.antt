@@ -4,13 +4,14 @@ use mathlib.Core.Bool.{Bool, true, false, cond}
 use Prim.Native.Nat.{_≤_}
 use native.Mathlib.Omega.{arith}
 use lib.Dec.{T}
-use lib.Ieee.{Float, nan, inf, fin, binary32, lt, le, mul, sub, div}
+use lib.Ieee.{Float, binary32, lt, le, mul, sub, div}
 use lib.Ieee.Fits.{and-i, and-l, and-r}
 use lib.Ieee.Scale.{finite}
 use Rattle.rounding.specs.Casts.{absolute}
 use Rattle.rounding.proofs.Units.{U}
 use Rattle.rounding.proofs.Smoothing as Smooth
 use Rattle.rounding.proofs.Smoothing.{sixty-four, tiny, In, one-in, again, one-known, closing-to, closing-to-strictly, closing-in, rest-of-nought, opening-within, opening-never-falls, gain-within, share-of}
+use Rattle.rounding.proofs.Scaled.{size-finite}
 use Rattle.answer.specs.Figures.{f32, nought, one}
 use Rattle.answer.specs.Checks.{inRange}
 use Rattle.common.specs.Follower.{toward, followed}
@@ -59,12 +60,6 @@ moves : (t : Bool) (o c v : Float) → Smoothing o → Smoothing c → In binary
 moves true o c v so sc i = opened (cond (lt v one) o c) v (either Smoothing (lt v one) so sc) i
 moves false o c v so sc i = closed (cond (lt v nought) o c) v (either Smoothing (lt v nought) so sc) i
 
-finite-of : (x : Float) → T (le (absolute x) sixty-four) → T (finite x)
-unfolding absolute le
-finite-of nan l = l
-finite-of (inf s) l = l
-finite-of (fin s n e) l = tt
-
 one-hundred-finite : T (finite (f32 100 1))
 unfolding f32
 one-hundred-finite = tt
@@ -94,7 +89,7 @@ module _ (s : Settings) (m : Registers) (x : Float) (a : Settable s) (b : Bounde
 
   pub quieter : T (le (absolute (output s m x)) (absolute x))
   unfolding output
-  quieter = Smooth.output binary32 x (gain s m x) fx (finite-of x lx) gain-in
+  quieter = Smooth.output binary32 x (gain s m x) fx (size-finite x lx) gain-in
 
   counter-most : counter s m x ≤ longestCount
   unfolding counter

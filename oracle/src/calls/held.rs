@@ -85,15 +85,19 @@ impl<S: Rules> Held<S> {
             Err(number) => (self.state.clone(), number),
         };
         // The Rust looks at no worked number.
-        if number != 4 && !S::Rust::takes_otherwise(value) {
+        if number != 4 {
             let refused = match std::str::from_utf8(name) {
                 Ok(name) => rust.stage().set_parameter(name, value).is_err(),
                 Err(_) => true,
             };
-            if refused != (number != 0) {
+            let otherwise = S::Rust::takes_otherwise(name, value);
+            if refused != ((number != 0) != otherwise) {
                 return Err(format!(
                     "setting {name:?} to {value}: {number}, the Rust refuses: {refused}"
                 ));
+            }
+            if otherwise {
+                *rust = S::Rust::holding(&state);
             }
         }
         rust.lend(&state);
@@ -154,17 +158,18 @@ impl<S: Rules> Held<S> {
             });
         }
         let mut output = input.to_vec();
-        let aims = rust.block(&self.state, &mut output);
+        let shown = rust.block(&self.state, &mut output);
         let mut count = 0;
         for (place, (&input, &output)) in input.iter().zip(&output).enumerate() {
             let rule = self.state.sample(input);
-            let open = self.state.aims_open();
-            if bits32(rule) != bits32(output) || aims.get(place).is_some_and(|&aim| aim != open) {
+            let seen = self.state.seen();
+            let rust = shown.get(place).copied().unwrap_or_default();
+            if bits32(rule) != bits32(output) || seen != rust {
                 return Err(format!(
-                    "sample {place}, {input}: {rule}, open {open}, the Rust {output}"
+                    "sample {place}, {input}: {rule}, {seen:x?}, the Rust {output}, {rust:x?}"
                 ));
             }
-            count += u64::from(open);
+            count += u64::from(seen.open);
         }
         self.agrees()?;
         Ok(Told {

@@ -83,7 +83,7 @@ impl<S: Drawn> List<'_, S> {
     }
 
     pub(super) fn signal(&mut self, length: usize) -> Vec<f32> {
-        let loud = self.random.pick(&[1.0, 0.125, 1e-4, 8.0]);
+        let loud = self.random.pick(&signals::LOUD);
         signals::drawn(loud, length, self.random)
     }
 
@@ -124,6 +124,7 @@ impl<S: Drawn> List<'_, S> {
     fn unmade(&mut self) {
         self.add(Call::Tell);
         self.calls_refused_by_9();
+        S::before_making(self);
     }
 
     /// Each making, and what it gives.

@@ -1,5 +1,5 @@
 //! Calls on a stage that is made, set, read, reset and run: the noise gate, the equaliser, the tone stack,
-//! the saturator.
+//! the saturator, the leveller.
 //!
 //! A list begins with a state as a refused making leaves it, and each call is on the state that the one
 //! before it left. What a call takes, and what an answer has, `oracle/README.md` says; all but the gate
@@ -22,7 +22,15 @@ use number::{Number, Taker};
 use rustortion_core::amp::stages::Stage;
 use std::{fmt::Debug, marker::PhantomData};
 
-/// A stage's state as document 01 has it, and what each call does to it. A refusal is its number.
+/// What is compared after each sample beside the output: whether a gate aimed open, and a follower's level as bits.
+#[derive(Clone, Copy, Debug, Default, PartialEq, Eq)]
+pub struct Seen {
+    pub open: bool,
+    pub level: u64,
+}
+
+/// A stage's state as document 01 has it, a leveller's as document 02, and what each call does to it. A refusal is its
+/// number.
 pub trait Rules: Clone + Debug + Default {
     type Rust: Rust<Self>;
 
@@ -44,9 +52,9 @@ pub trait Rules: Clone + Debug + Default {
 
     fn sample(&mut self, input: f32) -> f32;
 
-    /// Whether a gate aimed open at the sample just run.
-    fn aims_open(&self) -> bool {
-        false
+    /// What the sample just run left.
+    fn seen(&self) -> Seen {
+        Seen::default()
     }
 
     fn numbers(&self) -> Vec<Number>;
@@ -67,8 +75,8 @@ pub trait Rust<S> {
     /// The numbers and registers that the Rust has, in the places of the state's own.
     fn held(&self, state: &S) -> S;
 
-    /// Whether document 01 and the Rust differ about this value.
-    fn takes_otherwise(_value: f32) -> bool {
+    /// Whether of the documents and the Rust one takes this value of a setting and the other refuses it.
+    fn takes_otherwise(_name: &[u8], _value: f32) -> bool {
         false
     }
 
@@ -77,8 +85,8 @@ pub trait Rust<S> {
         false
     }
 
-    /// Runs the samples; of a gate, whether it aimed open at each.
-    fn block(&mut self, _state: &S, samples: &mut [f32]) -> Vec<bool> {
+    /// Runs the samples; of a stage with a level, what was seen after each.
+    fn block(&mut self, _state: &S, samples: &mut [f32]) -> Vec<Seen> {
         for sample in samples {
             *sample = self.stage().process(*sample);
         }
@@ -165,6 +173,9 @@ pub trait Drawn: Rules {
     fn named(which: u32, _random: &mut Random) -> Vec<u8> {
         Self::name(which)
     }
+
+    /// Calls before any making, behind those that every list begins with.
+    fn before_making(_list: &mut List<Self>) {}
 
     /// What only this stage has.
     fn borders(list: &mut List<Self>);

@@ -1,8 +1,10 @@
 //! Document 01's "IEEE 754 arithmetic" over whole numbers, with no float in it: a value is a whole
 //! number of a format's smallest one, a sum is taken whole, and one function rounds, once, for every
-//! width. It judges beside the Rust, and decides over it.
+//! width. It judges beside the Rust, and decides over it. A root is document 02's, by squares.
+mod root;
 mod whole;
 
+pub use root::root;
 use std::cmp::Ordering;
 use whole::Whole;
 

@@ -1,5 +1,5 @@
 //! Lists of cases: the one that is stored, and new ones.
-use super::{Case, Operation, published, singles, triples};
+use super::{Case, Operation, published, roots, singles, triples};
 use crate::{random::Random, shapes::specials};
 
 /// A case of an operation, of any of its families.
@@ -25,6 +25,7 @@ const fn stored_count(operation: Operation) -> usize {
         Operation::Fma32 | Operation::Fma64 => 20_500,
         Operation::Narrowed => 20_000,
         Operation::Truncated => 10_000,
+        Operation::Root32 => 4_000,
         _ => 2_000,
     }
 }
@@ -52,7 +53,8 @@ pub fn stored() -> Vec<u8> {
 }
 
 /// The cases of an operation that can be listed whole: its special values, and for a fused
-/// multiply-add each three of them and each gap between the exponents of product and third.
+/// multiply-add each three of them and each gap between the exponents of product and third, for a root each
+/// exponent.
 fn listed(operation: Operation, random: &mut Random) -> Vec<Case> {
     let format = operation.format();
     let values = specials(format);
@@ -64,11 +66,16 @@ fn listed(operation: Operation, random: &mut Random) -> Vec<Case> {
             let gaps = triples::gaps(format).map(|gap| triples::apart(format, gap, random));
             specials.chain(gaps).collect()
         }
-        _ => values.iter().map(|&a| [a, 0, 0]).collect(),
+        Operation::Root32 => alone(roots::listed(format, random)),
+        _ => alone(values),
     };
     let case = |operands| Case {
         operation,
         operands,
     };
     operands.into_iter().map(case).collect()
+}
+
+fn alone(operands: Vec<u64>) -> Vec<[u64; 3]> {
+    operands.into_iter().map(|a| [a, 0, 0]).collect()
 }

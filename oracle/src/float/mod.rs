@@ -1,6 +1,7 @@
 //! Float arithmetic. `oracle/README.md` says what stands where in a case and in its answer.
 mod cases;
 mod published;
+mod roots;
 mod singles;
 mod triples;
 
@@ -22,10 +23,11 @@ pub enum Operation {
     Size64,
     Bits32,
     Bits64,
+    Root32,
 }
 
 impl Operation {
-    const ALL: [Self; 9] = [
+    const ALL: [Self; 10] = [
         Self::Fma32,
         Self::Fma64,
         Self::Narrowed,
@@ -35,6 +37,7 @@ impl Operation {
         Self::Size64,
         Self::Bits32,
         Self::Bits64,
+        Self::Root32,
     ];
 
     const fn number(self) -> u8 {
@@ -56,14 +59,15 @@ impl Operation {
             Self::Size64 => "size64",
             Self::Bits32 => "bits32",
             Self::Bits64 => "bits64",
+            Self::Root32 => "root32",
         }
     }
 
     /// The format of the operands.
     const fn format(self) -> Format {
         match self {
-            Self::Fma32 | Self::Truncated | Self::Widened | Self::Size32 | Self::Bits32 => BINARY32,
             Self::Fma64 | Self::Narrowed | Self::Size64 | Self::Bits64 => BINARY64,
+            _ => BINARY32,
         }
     }
 
@@ -79,10 +83,11 @@ impl Operation {
             Self::Size64 => bits64(double(a).abs()),
             Self::Bits32 => bits32(single(a)),
             Self::Bits64 => bits64(double(a)),
+            Self::Root32 => bits32(single(a).sqrt()),
         }
     }
 
-    /// What document 01 says.
+    /// What document 01 says, and of a root document 02.
     fn by_rule(self, operands: [u64; 3]) -> u64 {
         let format = self.format();
         let [a, b, c] = operands.map(|bits| bits & (format.sign() | (format.sign() - 1)));
@@ -93,6 +98,7 @@ impl Operation {
             Self::Widened => exact::converted(BINARY32, BINARY64, a),
             Self::Size32 | Self::Size64 => exact::size(format, a),
             Self::Bits32 | Self::Bits64 => exact::settled(format, a),
+            Self::Root32 => exact::root(format, a),
         }
     }
 }

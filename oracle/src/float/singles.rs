@@ -1,5 +1,5 @@
 //! The operand of an operation that takes one, as bits, by what it tries.
-use super::Operation;
+use super::{Operation, roots};
 use crate::{
     exact::{BINARY32, BINARY64, Format},
     random::Random,
@@ -13,11 +13,12 @@ pub const fn families(operation: Operation) -> &'static [Family] {
     match operation {
         Operation::Narrowed => &[any_bits, in_single_range, at_half_a_step, at_largest_single],
         Operation::Truncated => &[any_bits, in_whole_range, at_whole_or_half, at_whole_border],
+        Operation::Root32 => &roots::FAMILIES,
         _ => &[any_bits, any_normal, special, subnormal],
     }
 }
 
-fn any_bits(_: Format, random: &mut Random) -> u64 {
+pub fn any_bits(_: Format, random: &mut Random) -> u64 {
     random.bits()
 }
 

@@ -1,12 +1,13 @@
 //! A gate's numbers: those that are accepted, their limits among them, and those that are not.
 use super::{
-    rules::{Gate, LONGEST_COUNT, LONGEST_HOLD, LOWEST_FACTOR},
+    rules::{Gate, LONGEST_COUNT, LONGEST_HOLD},
     setting::Setting,
 };
 use crate::{
-    limits::LARGEST_SAMPLE,
+    limits::{LARGEST_SAMPLE, LOWEST_FACTOR},
     numbers::{
-        NANS, RATES_REFUSED, SMALLEST, SMOOTHING, SMOOTHING_REFUSED, ends, rate, smoothing, within,
+        NANS, RATES_REFUSED, SMALLEST, SMOOTHING, SMOOTHING_REFUSED, ends, level, rate, smoothing,
+        threshold_factor, within,
     },
     random::Random,
 };
@@ -23,16 +24,6 @@ pub const HOLDS: [(f32, f32); 5] = [
 /// The state that a step halfway to 1 takes to 0.999, from where the gain is 1.
 pub const HALF_WAY_OPEN: f32 = 2.0 * 0.999 - 1.0;
 
-/// A linear factor: a limit, or of any exponent that it can have.
-fn factor(random: &mut Random) -> f32 {
-    let (low, high) = (LOWEST_FACTOR.to_bits(), 1f32.to_bits());
-    match random.below(8) {
-        0 => LOWEST_FACTOR,
-        1 => 1.0,
-        _ => f32::from_bits(low + random.below(u64::from(high - low) + 1) as u32),
-    }
-}
-
 /// Mostly so short that it is a few samples; then any hold, the longest among them.
 fn hold(random: &mut Random) -> f32 {
     match random.below(4) {
@@ -47,7 +38,7 @@ pub fn acceptable(random: &mut Random) -> Gate {
     Gate {
         rate: rate(random),
         threshold: within(-80.0, 0.0, random),
-        factor: factor(random),
+        factor: threshold_factor(random),
         ratio: within(1.0, 100.0, random),
         attack: within(0.1, 100.0, random),
         opening: smoothing(random),
@@ -56,7 +47,7 @@ pub fn acceptable(random: &mut Random) -> Gate {
         hold: hold(random),
         rising: smoothing(random),
         falling: smoothing(random),
-        level: within(0.0, LARGEST_SAMPLE, random) * random.pick(&[1.0, 1.0 / 64.0, 1e-6, 1e-40]),
+        level: level(random),
         state: within(0.0, 1.0, random) * random.pick(&[1.0, 1e-38, 1e-44]),
         counter: random.pick(&[0, 1, 2, 100, LONGEST_COUNT]),
     }

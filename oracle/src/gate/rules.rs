@@ -4,8 +4,9 @@ use super::{
     setting::{NAMES, Setting},
 };
 use crate::{
+    bits::bits32,
     calls::{
-        Rules,
+        Rules, Seen,
         number::{Number, Taker, singles},
     },
     limits::{LARGEST_SAMPLE, is_rate, is_smoothing},
@@ -15,8 +16,6 @@ use crate::{
 const MADE_HOLD: f32 = 50.0;
 pub const LONGEST_HOLD: f32 = 500.0;
 pub const LONGEST_COUNT: u64 = 96_000;
-/// 2^-14.
-pub const LOWEST_FACTOR: f32 = 1.0 / 16384.0;
 
 /// What a host sets and what a sample moves, in the order of the answers' bytes.
 #[derive(Clone, Copy, Debug, Default)]
@@ -161,8 +160,11 @@ impl Rules for Gate {
         input * gain
     }
 
-    fn aims_open(&self) -> bool {
-        self.level > self.factor || self.counter > 0
+    fn seen(&self) -> Seen {
+        Seen {
+            open: self.level > self.factor || self.counter > 0,
+            level: bits32(self.level),
+        }
     }
 
     fn numbers(&self) -> Vec<Number> {

@@ -1,6 +1,9 @@
 //! The Rust's gate with worked numbers lent.
 use super::rules::Gate;
-use crate::calls;
+use crate::{
+    bits::bits32,
+    calls::{self, Seen},
+};
 use rustortion_core::amp::stages::{
     Stage,
     noise_gate::{GateRegisters, NoiseGateStage},
@@ -58,10 +61,13 @@ impl calls::Rust<Gate> for Rust {
         name == b"threshold"
     }
 
-    fn block(&mut self, _: &Gate, samples: &mut [f32]) -> Vec<bool> {
+    fn block(&mut self, _: &Gate, samples: &mut [f32]) -> Vec<Seen> {
         let run = |sample: &mut f32| {
             *sample = self.0.process(*sample);
-            self.0.aimed_open()
+            Seen {
+                open: self.0.aimed_open(),
+                level: bits32(self.0.registers().level),
+            }
         };
         samples.iter_mut().map(run).collect()
     }

@@ -1,6 +1,6 @@
 //! Document 01's settings of a gate: what each may be, and what it changes.
-use super::rules::{Gate, LONGEST_HOLD, LOWEST_FACTOR};
-use crate::limits::is_smoothing;
+use super::rules::{Gate, LONGEST_HOLD};
+use crate::limits::{is_smoothing, is_threshold_factor};
 
 /// A setting with its value and the worked number that it takes.
 #[derive(Clone, Copy, Debug)]
@@ -71,7 +71,7 @@ impl Setting {
 
     pub fn is_worked(self) -> bool {
         match self {
-            Self::Threshold(_, factor) => (LOWEST_FACTOR..=1.0).contains(&factor),
+            Self::Threshold(_, factor) => is_threshold_factor(factor),
             Self::Attack(_, c) | Self::Release(_, c) => is_smoothing(c),
             Self::Ratio(_) | Self::Hold(_) => true,
         }

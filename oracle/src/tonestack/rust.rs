@@ -1,6 +1,9 @@
 //! The Rust's tone stack with presence's factor lent.
 use super::rules::{NAMES, Tone};
-use crate::{calls, power::with_power};
+use crate::{
+    calls::{self, Seen},
+    power::with_power,
+};
 use rustortion_core::amp::stages::{
     Stage,
     tonestack::{ToneRegisters, ToneStackModel, ToneStackStage},
@@ -50,11 +53,11 @@ impl calls::Rust<Tone> for Rust {
     }
 
     /// The Rust takes a NaN, document 01 refuses it by 3.
-    fn takes_otherwise(value: f32) -> bool {
-        value.is_nan()
+    fn takes_otherwise(name: &[u8], value: f32) -> bool {
+        value.is_nan() && NAMES.iter().any(|known| known.as_bytes() == name)
     }
 
-    fn block(&mut self, state: &Tone, samples: &mut [f32]) -> Vec<bool> {
+    fn block(&mut self, state: &Tone, samples: &mut [f32]) -> Vec<Seen> {
         let factor = state.factor;
         with_power(
             move |_, _| factor,

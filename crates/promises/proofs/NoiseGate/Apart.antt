@@ -1,16 +1,9 @@
--- No number is accepted both as a threshold's dB and as its factor: the one is at most 0, the other at least 2^-14.
+-- No number is accepted by the gate both as a threshold's dB and as its factor.
 -- Assumes nothing.
-use mathlib.Core.Path.{_≡_, refl}
-use mathlib.Core.Bool.{Bool, true, false, _&&_, _||_}
-use Prim.Native.Nat.{ℕ, _*_, _≤_}
-use native.Mathlib.Nat.{mul-pos, le-of-lt, le-of-eq}
+use mathlib.Core.Path.{_≡_}
 use native.Mathlib.Omega.{arith}
-use lib.IntN.{pos}
-use lib.Dec.{T, eqb, ltb, ltb→lt, eqb→eq}
-use lib.Ieee.{Float, nan, inf, fin, up, down, le, neg}
-use lib.Ieee.Fits.{up-pos, and-l, and-r}
-use lib.Ieee.Positive.{above, above-of-le}
-use Rattle.answer.specs.Figures.{f32, nought, one}
+use lib.Dec.{T}
+use lib.Ieee.{Float}
 use Rattle.answer.specs.Names.{bytes, same}
 use Rattle.answer.specs.Told.{Told}
 use Rattle.noise_gate_settings.specs.Ranges.{inItsRange, worked}
@@ -21,6 +14,7 @@ use Rattle.noise_gate.specs.Bounds.{acceptable}
 use Rattle.noise_gate.specs.Calls.{setTyped, setFound, set}
 use Rattle.noise_gate.specs.declared.Gate.{Gate}
 use Rattle.silence.proofs.Along.{by}
+use Rattle.promises.proofs.Apart.{never-both}
 
 -- ---- what a done setting says of its numbers
 abbrev InRange : Setting → Told Gate → Type 0
@@ -40,30 +34,10 @@ named-in : (g : Gate) (x y : Float) → InRange (threshold x y) (set g (bytes "t
 unfolding set setFound named same
 named-in g x y = by (InRange (threshold x y)) (acceptable g) (λ e. absurd (omega arith)) λ _. typed-in g (threshold x y)
 
--- ---- at most 0 and above it
-at-most : (a b : ℕ) → T (ltb a b || (eqb a b && true)) → a ≤ b
-at-most a b t = go (ltb a b) refl t
-  where
-    go : (l : Bool) → ltb a b ≡ l → T (l || (eqb a b && true)) → a ≤ b
-    go true e t = le-of-lt (ltb→lt a b (rw e tt))
-    go false e t = le-of-eq (eqb→eq a b (and-l (eqb a b) true t))
-
-not-above : (x : Float) → T (le x nought) → T (above x) → ⊥
-unfolding le
-not-above nan h p = h
-not-above (inf true) h p = p
-not-above (inf false) h p = h
-not-above (fin true m e) h p = p
-not-above (fin false m e) h p =
-    let k = at-most (m * up e * down (pos 0)) (0 * up (pos 0) * down e) h in
-    let l = mul-pos (ltb→lt 0 m p) (up-pos e) in
-    omega arith
-
 module _ (x y z : Float) where
   apart : T (inItsRange (threshold x y)) → T (worked (threshold z x)) → ⊥
-  unfolding inItsRange worked f32
-  apart d k =
-      not-above x (and-r (le (neg (f32 80 1)) x) (le x nought) d) (above-of-le (f32 1 16384) x tt (and-l (le (f32 1 16384) x) (le x one) k))
+  unfolding inItsRange worked
+  apart d k = never-both x d k
 
 pub typed-apart : (g h : Gate) (x y z : Float) → setTyped g (threshold x y) .number ≡ 0 → setTyped h (threshold z x) .number ≡ 0 → ⊥
 typed-apart g h x y z d k = apart x y z (typed-in g (threshold x y) d .0) (typed-in h (threshold z x) k .1)

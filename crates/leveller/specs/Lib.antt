@@ -1,0 +1,3 @@
+-- The leveller: what 9 accepts, and the calls.
+pub mod Bounds
+pub mod Calls
