@@ -11,7 +11,7 @@ use mathlib.Core.List.{[], _∷_}
 use lib.Dec.{T}
 use lib.Ieee.{binary32, fits, le, lt, whole}
 use lib.Ieee.Fits.{and-i, and-l, and-r}
-use Rattle.answer.specs.Figures.{f32}
+use Rattle.answer.specs.Figures.{f32, nought}
 use Rattle.answer.specs.Checks.{isRate, isSmoothing}
 use Rattle.answer.specs.Told.{Unchanged}
 use Rattle.answer.specs.Blocks.{checkedBlock}
@@ -81,8 +81,13 @@ unmade = record {
 }
 
 -- ---- what 9 accepts
+some-made : calls.make (f32 48000 1) nought nought .number ≡ 0
+unfolding calls.make isRate isSmoothing whole le lt f32
+some-made = refl
+
 pub accepted : Accepted
 accepted = record {
+  some = some-made;
   carried-on = λ rate rising falling f d cs fs.
       let k = carried-on rate rising falling f d cs fs in
       accepts (carried (calls.make rate rising falling .state) cs) (k .settable) (k .level);

@@ -48,8 +48,9 @@ pub record Unmade : Type 0 where
   pub reset : calls.reset calls.unmade ≡ refused calls.unmade BadState
   pub block : (xs out : List Float) → calls.block calls.unmade xs out ≡ (refused calls.unmade BadState, out)
 
--- 9 refuses no leveller that could have been set or made: one whose making was done is accepted after any calls
+-- some making is done; and 9 refuses no leveller that could have been set or made: one whose making was done is accepted after any calls
 pub record Accepted : Type 0 where
+  pub some : calls.make (f32 48000 1) nought nought .number ≡ 0
   pub carried-on : (rate rising falling : Float) → T (allF32 (rate ∷ rising ∷ falling ∷ [])) → calls.make rate rising falling .number ≡ 0
       → (cs : List Call) → InF32 cs → T (acceptable (carried (calls.make rate rising falling .state) cs))
 
