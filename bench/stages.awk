@@ -25,6 +25,7 @@ END {
     line("DC blocker, a call", "blocker", 3)
     line("gate", "gate")
     line("gate, closing on silence", "gate-silence")
+    line("gate, with a record", "gate-record")
     line("clipper, hard", "hard")
     line("clipper, triode", "triode")
     line("equaliser, 16 bands set", "eq", 0, sprintf("%.0f", 1.2 * 48 * one_fma64))

@@ -12,6 +12,7 @@
 enum { SAMPLES = 4096, ROUNDS = 4 };
 
 static float input[SAMPLES], output[ROUNDS][SAMPLES];
+static uint8_t aims[ROUNDS][SAMPLES];
 static hoofglaze_answer told[ROUNDS];
 
 /* ---- samples */
@@ -87,6 +88,17 @@ static void gate(const struct offer *o)
     BLOCKS(g, o->gate_block, gate)
 }
 
+static void gate_record(const struct offer *o)
+{
+    hoofglaze_gate g = a_gate();
+    for (int round = 0; round < ROUNDS; round++) {
+        hoofglaze_gate_answered a =
+            o->gate_record(g, input, SAMPLES, output[round], SAMPLES, aims[round], SAMPLES);
+        g = a.gate;
+        told[round] = a.answer;
+    }
+}
+
 static void clip_hard(const struct offer *o)
 {
     for (int round = 0; round < ROUNDS; round++)
@@ -153,6 +165,7 @@ static const struct row {
     {"blocker", words, blocker},
     {"gate", words, gate},
     {"gate-silence", silence, gate},
+    {"gate-record", words, gate_record},
     {"hard", words, clip_hard},
     {"triode", words, clip_triode},
     {"eq", words, eq},
@@ -185,9 +198,9 @@ static struct offer offer_of_nothing(void)
 }
 
 static const struct offer library = {
-    hoofglaze_follower_step, hoofglaze_blocker_step, hoofglaze_gate_block, hoofglaze_clip_hard,
-    hoofglaze_clip_triode,   hoofglaze_eq_block,     hoofglaze_tone_block, hoofglaze_saturator_block,
-    hoofglaze_leveller_block,
+    hoofglaze_follower_step, hoofglaze_blocker_step, hoofglaze_gate_block,      hoofglaze_gate_record,
+    hoofglaze_clip_hard,     hoofglaze_clip_triode,  hoofglaze_eq_block,        hoofglaze_tone_block,
+    hoofglaze_saturator_block, hoofglaze_leveller_block,
 };
 
 static int fused(void)
@@ -199,22 +212,26 @@ static int fused(void)
 
 /* ---- agreement */
 
-/* How many samples and answers of a row differ from the library's. */
+/* How many samples, aims and answers of a row differ from the library's. */
 static int apart(const struct row *row, const struct offer *o)
 {
     static float expected[ROUNDS][SAMPLES];
+    static uint8_t aimed[ROUNDS][SAMPLES];
     hoofglaze_answer said[ROUNDS];
     int differ = 0;
     memset(told, 0, sizeof told);
+    memset(aims, 0xff, sizeof aims);
     row->run(&library);
     memcpy(expected, output, sizeof expected);
+    memcpy(aimed, aims, sizeof aimed);
     memcpy(said, told, sizeof said);
     memset(output, 0xff, sizeof output);
+    memset(aims, 0xff, sizeof aims);
     row->run(o);
     for (int i = 0; i < ROUNDS; i++) {
         differ += said[i].number != 0 || told[i].number != 0 || told[i].count != said[i].count;
         for (int j = 0; j < SAMPLES; j++)
-            differ += memcmp(&output[i][j], &expected[i][j], sizeof(float)) != 0;
+            differ += memcmp(&output[i][j], &expected[i][j], sizeof(float)) != 0 || aims[i][j] != aimed[i][j];
     }
     return differ;
 }

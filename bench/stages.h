@@ -6,6 +6,8 @@ struct offer {
     hoofglaze_blocker_answered (*blocker_step)(hoofglaze_blocker b, float x);
     hoofglaze_gate_answered (*gate_block)(hoofglaze_gate g, const float *input, size_t samples,
                                           float *output, size_t places);
+    hoofglaze_gate_answered (*gate_record)(hoofglaze_gate g, const float *input, size_t samples,
+                                           float *output, size_t places, uint8_t *aims, size_t bytes);
     hoofglaze_answer (*clip_hard)(float drive, const float *input, size_t samples, float *output,
                                   size_t places);
     hoofglaze_answer (*clip_triode)(float drive, const float *input, size_t samples, float *output,

@@ -19,11 +19,12 @@ function line(title, row) {
 }
 
 END {
-    writings["empty"] = writings["kilobyte"] = 4096
+    writings["empty"] = writings["kilobyte"] = writings["head"] = 4096
     writings["megabyte"] = 16
     printf "\n%-32s%20s%24s\n", "a recording that is written", "instructions", "nanoseconds"
     printf "%-32s%10s%10s%14s%10s\n", "", "library", "in C", "library", "in C"
     line("no sample", "empty")
     line("1,024 bytes of samples", "kilobyte")
     line("1,048,576 bytes of samples", "megabyte")
+    line("the head alone", "head")
 }

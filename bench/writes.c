@@ -12,35 +12,55 @@ enum { MOST = 1048576, RATE = 48000, ROUNDS = 50 };
 
 static uint8_t samples[MOST], file[44 + MOST], another[sizeof file];
 
-/* ---- recordings: bytes of samples, and how often each is written, which bench/writes.awk has too */
+/* ---- recordings: bytes of samples, and how often each is written, which bench/writes.awk has too; of the
+ * last the head alone */
 
 static const struct row {
     const char *name;
-    size_t bytes;
+    uint64_t bytes;
     int writings;
-} rows[] = {{"empty", 0, 4096}, {"kilobyte", 1024, 4096}, {"megabyte", MOST, 16}};
+} rows[] = {{"empty", 0, 4096},
+            {"kilobyte", 1024, 4096},
+            {"megabyte", MOST, 16},
+            {"head", MOST_HEADED, 4096}};
 
-enum { ROWS = sizeof rows / sizeof *rows };
+/* How many there are, and how many of them are written whole. */
+enum { ROWS = sizeof rows / sizeof *rows, WHOLE = ROWS - 1 };
 
 /* ---- who offers the writer */
 
 typedef hoofglaze_written (*writer)(uint32_t rate, const uint8_t *samples, size_t bytes, uint8_t *output,
                                     size_t room);
+typedef hoofglaze_written (*header)(uint32_t rate, uint64_t bytes, uint8_t *output, size_t room);
 
-/* Does nothing but return. */
+/* A function of each signature that does nothing but return. */
 __asm__(".text\n.globl nothing\nnothing:\n\tret\n");
 hoofglaze_written nothing(uint32_t rate, const uint8_t *samples, size_t bytes, uint8_t *output, size_t room);
+hoofglaze_written no_head(uint32_t rate, uint64_t bytes, uint8_t *output, size_t room) __asm__("nothing");
 
 static const struct offer {
     const char *whose;
     writer write;
-} offers[] = {{"nothing", nothing}, {"hoofglaze", hoofglaze_wave_write}, {"c", wave_write}};
+    header head;
+} offers[] = {{"nothing", nothing, no_head},
+              {"hoofglaze", hoofglaze_wave_write, hoofglaze_wave_head},
+              {"c", wave_write, wave_head}};
 
 enum { OFFERS = sizeof offers / sizeof *offers };
+
+static void write_heads(header volatile head, const struct row *row)
+{
+    for (int i = 0; i < row->writings; i++)
+        head(RATE, row->bytes, file, sizeof file);
+}
 
 static void write_row(const struct offer *offer, const struct row *row)
 {
     writer volatile write = offer->write;
+    if (row == &rows[WHOLE]) {
+        write_heads(offer->head, row);
+        return;
+    }
     for (int i = 0; i < row->writings; i++)
         write(RATE, samples, row->bytes, file, sizeof file);
 }
@@ -71,10 +91,23 @@ static void time_row(const struct row *row)
 
 /* ---- agreement */
 
-static int agree(void)
+/* In room that is too small and that is enough, up to the most bytes of samples and above. */
+static int heads_apart(void)
 {
     int apart = 0;
-    for (int i = 0; i < ROWS; i++)
+    for (uint64_t bytes = MOST_HEADED - 2; bytes <= MOST_HEADED + 2; bytes++)
+        for (size_t room = 43; room < 46; room++) {
+            hoofglaze_written a = hoofglaze_wave_head(RATE, bytes, file, room);
+            hoofglaze_written b = wave_head(RATE, bytes, another, room);
+            apart += a.number != b.number || a.length != b.length || memcmp(file, another, sizeof file) != 0;
+        }
+    return apart;
+}
+
+static int agree(void)
+{
+    int apart = heads_apart();
+    for (int i = 0; i < WHOLE; i++)
         for (size_t room = 43; room < 46; room++) {
             size_t bytes = rows[i].bytes;
             hoofglaze_written a = hoofglaze_wave_write(RATE, samples, bytes, file, room + bytes);

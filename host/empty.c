@@ -20,6 +20,19 @@ static void no_setting(const char *call, hoofglaze_answer a)
     check_answer(call, a, 1, 0, 0, 0);
 }
 
+static void gate_record(hoofglaze_gate g)
+{
+    uint8_t aims[1];
+    hoofglaze_gate_answered a = hoofglaze_gate_record(g, 0, 0, 0, 0, 0, 0);
+    done_and_same("gate_record", a.answer, &a.gate.settings, &g.settings, sizeof g.settings);
+    done_and_same("gate_record", a.answer, &a.gate.registers, &g.registers, sizeof g.registers);
+    check_answer("gate_record", hoofglaze_gate_record(g, 0, 0, output, 1, 0, 0).answer, 7, 0, 0, 0);
+    check_answer("gate_record", hoofglaze_gate_record(g, 0, 0, 0, 0, aims, 1).answer, 7, 0, 0, 0);
+    check_answer("gate_record", hoofglaze_gate_record(g, input, 1, output, 1, 0, 0).answer, 7, 0, 0, 0);
+    check_answer("gate_record", hoofglaze_gate_record(g, input, 1, 0, 0, aims, 1).answer, 7, 0, 0, 0);
+    check_answer("gate_record", hoofglaze_gate_record(g, 0, 0, output, 1, aims, 1).answer, 7, 0, 0, 0);
+}
+
 static void gate(void)
 {
     hoofglaze_gate g = hoofglaze_gate_make(48000, 0.5f, 0.5f).gate, lying = g;
@@ -29,6 +42,7 @@ static void gate(void)
     check_answer("gate_block_in_place", hoofglaze_gate_block_in_place(&lying, 0, 0, 0, 0), 0, 0, 0, 0);
     check_answer("gate_block", hoofglaze_gate_block(g, 0, 0, output, 1).answer, 7, 0, 0, 0);
     check_answer("gate_block", hoofglaze_gate_block(g, input, 1, 0, 0).answer, 7, 0, 0, 0);
+    gate_record(g);
     no_setting("gate_set", hoofglaze_gate_set(g, 0, 0, 1, 0).answer);
     no_setting("gate_set_in_place", hoofglaze_gate_set_in_place(&lying, 0, 0, 1, 0));
     no_setting("gate_read", hoofglaze_gate_read(g, 0, 0));
@@ -94,6 +108,8 @@ static void recordings(void)
     check("wave_write", same_bytes(file, none, sizeof none), sizeof none, 0, 44, 2);
     check_written("wave_write", hoofglaze_wave_write(48000, 0, 0, 0, 0), no_room, 0, 0);
     check_written("wave_write", hoofglaze_wave_write(48000, two, 2, 0, 0), no_room, 2, 0);
+    check_written("wave_head", hoofglaze_wave_head(48000, 0, 0, 0), no_room, 0, 0);
+    check_written("wave_head", hoofglaze_wave_head(48000, 2, 0, 0), no_room, 2, 0);
 }
 
 void empty_checks(void)

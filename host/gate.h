@@ -27,6 +27,9 @@ hoofglaze_gate_answered set_typed(hoofglaze_gate g, int i, float value, float wo
 hoofglaze_gate_answered set_in_place(hoofglaze_gate g, const char *name, size_t bytes, float value,
                                      float worked);
 
+/* Blocks with a record on a state that 9 refuses. */
+void check_record_refused_by_9(hoofglaze_gate g);
+
 void gate_block_checks(void);
 
 #endif

@@ -69,6 +69,7 @@ static void check_bad_gate(hoofglaze_gate g)
     check_refused(g, 3, 3, 9, 0);
     check_refused(g, 3, 4, 9, 0);
     check_refused(g, ROOM, ROOM, 9, 0);
+    check_record_refused_by_9(g);
 }
 
 /* The lowest and the highest that each setting may be, as bits. */

@@ -14,7 +14,7 @@
 #include <stdint.h>
 
 /* Grows by one with each release that a host can tell from the one before; docs/RELEASES.md says how. */
-#define HOOFGLAZE_VERSION 4
+#define HOOFGLAZE_VERSION 5
 
 #ifdef __cplusplus
 extern "C" {
@@ -85,7 +85,7 @@ double hoofglaze_from_bits64(uint64_t n);
  * 4 a worked number isn't acceptable
  * 5 sample rate isn't a whole number from 8,000 to 192,000
  * 6 a sample is NaN, infinite or larger in size than 64; carries the place of the first that is refused
- * 7 the two buffers differ in length
+ * 7 a call's buffers differ in length
  * 8 block longer than 4,096 samples
  * 9 a state's settings, rate or worked numbers couldn't have been set or made, or the gate's level,
  *   state or counter or the leveller's level is out of bounds
@@ -244,8 +244,17 @@ hoofglaze_gate_answered hoofglaze_gate_reset(hoofglaze_gate g);
 hoofglaze_gate_answered hoofglaze_gate_block(hoofglaze_gate g, const float *input, size_t samples,
                                              float *output, size_t places);
 
-/* The same on the host's own gate, changed where it lies: its settings and its registers are written, and
- * no other byte; the four between them stay. In a gate that is given back by value they are any. */
+/* The same block, with a record of where the gate aims: a byte for each sample, 1 open, 0 closed. The record
+ * must be as long as the input too: 9, 7, 8, 6. All else is as above: state, answer and outputs are those of
+ * hoofglaze_gate_block, the record's bytes add up to the count, and a refusal leaves the record as it was.
+ * A byte is 1 exactly if some sample since making or the last reset was loud and the latest such is this one
+ * or fewer than H back, H being the hold in samples in force at that loud one. */
+hoofglaze_gate_answered hoofglaze_gate_record(hoofglaze_gate g, const float *input, size_t samples,
+                                              float *output, size_t places, uint8_t *aims, size_t bytes);
+
+/* A setting, a reset and a block on the host's own gate, changed where it lies: its settings and its registers
+ * are written, and no other byte; the four between them stay. In a gate that is given back by value they are
+ * any. */
 hoofglaze_answer hoofglaze_gate_set_in_place(hoofglaze_gate *g, const uint8_t *name, size_t bytes,
                                              float value, float worked);
 hoofglaze_answer hoofglaze_gate_reset_in_place(hoofglaze_gate *g);
@@ -571,8 +580,8 @@ hoofglaze_leveller_answered hoofglaze_leveller_block(hoofglaze_leveller l, const
  *    16, the block align 2 or the byte rate twice the rate
  * 5 sample rate isn't from 8,000 to 192,000
  * 14 an odd number of bytes of samples
- * 15 less room than the file takes
- * 17 more than 1,048,576 bytes of samples
+ * 15 less room than the file takes, or its head
+ * 17 more than 1,048,576 bytes of samples; for a head alone, more than 4,294,967,259
  *
  * Reading is refused by 10 to 14 and 5, writing by 5, 14, 15 and 17.
  *
@@ -606,10 +615,11 @@ hoofglaze_wave hoofglaze_wave_read(const uint8_t *file, size_t bytes);
  * What was read from a file is written again as the same bytes where its place is 44, nothing lies behind its
  * samples and its RIFF size is 36 + .length. Where it had other chunks or bytes behind its samples, it comes
  * out shorter, without them. Where only its RIFF size is another, which is then too large, no other byte
- * differs. More than 1,048,576 bytes of samples can be read and not written. */
+ * differs. More than 1,048,576 bytes of samples can be read and not written by one call: hoofglaze_wave_head
+ * gives their head. */
 typedef struct {
     uint32_t number; /* 0 done, or what it is refused by: then length is 0 */
-    uint32_t length; /* of the file in bytes: 44 + n */
+    uint32_t length; /* of what was written, in bytes: 44 + n, or 44 for a head alone */
 } hoofglaze_written;
 
 /* Writes so many bytes of samples as a file at the start of the output, whose room must be 44 + `bytes` or
@@ -617,6 +627,12 @@ typedef struct {
  * was; where the call is refused, all of the output does. */
 hoofglaze_written hoofglaze_wave_write(uint32_t rate, const uint8_t *samples, size_t bytes, uint8_t *output,
                                        size_t room);
+
+/* Writes the head alone, 44 bytes at the start of the output, for so many bytes of samples that the host writes
+ * behind it: 5, 14, 17, 15. Head and samples are then the file that hoofglaze_wave_write would write, for more
+ * of them than it takes: any even number whose RIFF size fits in 32 bits. Done, its length is 44. What lies
+ * behind the 44 bytes stays as it was; where the call is refused, all of the output does. */
+hoofglaze_written hoofglaze_wave_head(uint32_t rate, uint64_t bytes, uint8_t *output, size_t room);
 
 #ifdef __cplusplus
 }

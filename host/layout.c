@@ -86,6 +86,23 @@ static void gate_given(void)
     check_answer_at("gate_read", &r, 0, 0, 70, 0, 0);
 }
 
+/* The aims' length is the argument that lies behind the gate. */
+static void record_given(void)
+{
+    const float input[] = {0.5f, 0.25f, 0};
+    float output[3];
+    uint8_t aims[3] = {7, 7, 7};
+    hoofglaze_gate_answered a = hoofglaze_gate_record(set_gate(), input, 2, output, 2, aims, 2);
+    check_floats("gate_record", &a, 0, settings, 11);
+    check_floats("gate_record", &a, 48, (float[]){0.25f, 0.4375f}, 2);
+    check("gate_record", long_at(&a, 56), 882, 56, 0, 0);
+    check_answer_at("gate_record", &a, 64, 0, 0, 0, 2);
+    check("gate_record", aims[0] << 16 | aims[1] << 8 | aims[2], 0x010107, 0, 0, 0);
+    a = hoofglaze_gate_record(a.gate, input, 3, output, 3, aims, 2);
+    check_answer_at("gate_record", &a, 64, 7, 0, 0, 0);
+    check("gate_record", long_at(&a, 56), 882, 56, 0, 0);
+}
+
 /* A gate from bytes that were never one: a block of it steps from these numbers. */
 static void gate_handed_back(void)
 {
@@ -186,6 +203,12 @@ static void recording_written(void)
     w = hoofglaze_wave_write(48000, (const uint8_t[]){SIX}, 5, file, sizeof file);
     check("wave_write", word_at(&w, 0), 14, 0, 0, 0);
     check("wave_write", word_at(&w, 4), 0, 4, 0, 0);
+    w = hoofglaze_wave_head(48000, 6, file, sizeof file);
+    check("wave_head", word_at(&w, 0), 0, 0, 0, 0);
+    check("wave_head", word_at(&w, 4), 44, 4, 0, 0);
+    w = hoofglaze_wave_head(48000, 5, file, sizeof file);
+    check("wave_head", word_at(&w, 0), 14, 0, 0, 0);
+    check("wave_head", word_at(&w, 4), 0, 4, 0, 0);
 }
 
 void layout_checks(void)
@@ -193,6 +216,7 @@ void layout_checks(void)
     group("layout: numbers where the header has them");
     lone();
     gate_given();
+    record_given();
     gate_handed_back();
     leveller_given();
     leveller_handed_back();

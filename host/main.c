@@ -14,6 +14,8 @@ void wave_checks(void);
 void write_checks(void);
 void root_checks(void);
 void leveller_checks(void);
+void record_checks(void);
+void head_checks(void);
 void layout_checks(void);
 void padding_checks(void);
 void empty_checks(void);
@@ -34,6 +36,8 @@ int main(int count, char **words)
     write_checks();
     root_checks();
     leveller_checks();
+    record_checks();
+    head_checks();
     layout_checks();
     padding_checks();
     empty_checks();

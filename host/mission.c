@@ -85,6 +85,24 @@ static struct passage passed(hoofglaze_gate g)
     return p;
 }
 
+/* As a record has it, in blocks. */
+static struct passage recorded(hoofglaze_gate g)
+{
+    static float out[BLOCK];
+    static uint8_t aims[BLOCK];
+    struct passage p = {.count = 0};
+    for (int i = 0; i < samples; i += BLOCK) {
+        int n = samples - i < BLOCK ? samples - i : BLOCK;
+        hoofglaze_gate_answered a = hoofglaze_gate_record(g, recording + i, n, out, n, aims, n);
+        check("a block with a record is done", a.answer.number, 0, i, 0, 0);
+        for (int k = 0; k < n; k++)
+            if (aims[k] == 1)
+                add(&p, i + k);
+        g = a.gate;
+    }
+    return p;
+}
+
 /* As document 01 says: the level after each sample, loud above the threshold's factor; open if the latest
  * loud sample is this one or fewer than H back. */
 static struct passage expected(const hoofglaze_gate_settings *s)
@@ -120,8 +138,9 @@ static int open_count(hoofglaze_gate *g, float factor, int from, int to)
 static struct passage told(float decibels)
 {
     hoofglaze_gate g = gate_at(decibels), again = g;
-    struct passage p = passed(g), said = expected(&g.settings);
+    struct passage p = passed(g), kept = recorded(g), said = expected(&g.settings);
     check("spans", p.count, said.count, 0, 0, 0);
+    check("a record's spans and counts", memcmp(&kept, &said, sizeof said), 0, kept.open, said.open, 0);
     check("samples aimed open", p.open, said.open, 0, 0, 0);
     check("open count of blocks", open_count(&again, 1, 0, samples), said.open, 0, 0, 0);
     printf("  threshold %.0f dB (factor %.4f): meant to pass", decibels, g.settings.factor.factor);

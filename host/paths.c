@@ -104,6 +104,7 @@ static void gate_settings(hoofglaze_gate g, hoofglaze_gate bad)
 static void gate_blocks(hoofglaze_gate g, hoofglaze_gate bad)
 {
     static hoofglaze_gate lying;
+    static uint8_t aims[ROOM];
     SAME(gated = hoofglaze_gate_reset(g));
     SAME(gated = hoofglaze_gate_reset(bad));
     SAME(gated = hoofglaze_gate_block(g, input, BLOCK, output, BLOCK));
@@ -111,6 +112,12 @@ static void gate_blocks(hoofglaze_gate g, hoofglaze_gate bad)
     SAME(gated = hoofglaze_gate_block(g, input, ROOM, output, ROOM));
     SAME(gated = hoofglaze_gate_block(g, loud, BLOCK, output, BLOCK));
     SAME(gated = hoofglaze_gate_block(bad, input, BLOCK, output, BLOCK));
+    SAME(gated = hoofglaze_gate_record(g, input, BLOCK, output, BLOCK, aims, BLOCK));
+    SAME(gated = hoofglaze_gate_record(g, input, BLOCK, output, 1, aims, BLOCK));
+    SAME(gated = hoofglaze_gate_record(g, input, BLOCK, output, BLOCK, aims, 1));
+    SAME(gated = hoofglaze_gate_record(g, input, ROOM, output, ROOM, aims, ROOM));
+    SAME(gated = hoofglaze_gate_record(g, loud, BLOCK, output, BLOCK, aims, BLOCK));
+    SAME(gated = hoofglaze_gate_record(bad, input, BLOCK, output, BLOCK, aims, BLOCK));
     SAME(answer = hoofglaze_gate_set_in_place(&g, NAME("ratio"), 3, 0));
     SAME(answer = hoofglaze_gate_set_in_place(&g, NAME("ratio"), 300, 0));
     SAME(answer = hoofglaze_gate_reset_in_place(&g));

@@ -50,12 +50,14 @@ static hoofglaze_saturator_crossover crossover;
 static float rate, value, worked, small[3];
 static double large[3];
 static const char *name = "";
-static size_t bytes, band, samples, places;
+static size_t bytes, band, samples, places, aim_bytes;
+static uint8_t aims[ROOM];
 static uint8_t file[LONGEST_FILE];
 static size_t file_bytes;
 static uint8_t recorded[MOST_RECORDED + 2], written[44 + MOST_RECORDED];
 static uint32_t file_rate = 48000;
 static size_t recorded_bytes = 2, written_room = sizeof written;
+static uint64_t headed_bytes = 2;
 
 #define RUN(f, stage, laid, ...)                                                                           \
     static void run_##f(void)                                                                              \
@@ -156,6 +158,7 @@ static void try_block(size_t from, size_t to, int refused, int good, int model)
 {
     samples = from;
     places = to;
+    aim_bytes = model == 3 ? to - to / 2 : to;
     for (size_t i = 0; i < from; i++)
         input[i] = float_of((uint32_t)(drawn() % (SIXTY_FOUR + 1) + (drawn() % 2 ? SIGN : 0)));
     if (refused)
@@ -174,6 +177,9 @@ static void try_recording(int i)
     file_rate = i % 8 ? 48000 : 7999;
     recorded_bytes = i % 50 ? drawn() % LONGEST_FILE : lengths[i / 50 % COUNT(lengths)];
     written_room = i % 4 ? sizeof written : 44 + recorded_bytes / 2;
+    headed_bytes = i % 16 ? recorded_bytes : drawn() >> drawn() % 64;
+    if (i % 32 == 4)
+        written_room = 43;
     measure_all(recordings, COUNT(recordings));
 }
 
@@ -203,6 +209,7 @@ static void check_states(void)
     quiet_input();
     make_states(1, 0);
     check("gate_block", hoofglaze_gate_block(gate, input, 1, output, 1).answer.number, 0, 0, 0, 0);
+    check("gate_record", hoofglaze_gate_record(gate, input, 1, output, 1, aims, 1).answer.number, 0, 0, 0, 0);
     check("eq_block", hoofglaze_eq_block(eq, input, 1, output, 1).answer.number, 0, 0, 0, 0);
     check("tone_block", hoofglaze_tone_block(tone, input, 1, output, 1).answer.number, 0, 0, 0, 0);
     check("saturator_block", hoofglaze_saturator_block(saturator, input, 1, output, 1).answer.number, 0, 0, 0, 0);

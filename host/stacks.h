@@ -4,6 +4,7 @@
 #define STACKS_H
 
 #define GATE_BYTES sizeof(hoofglaze_gate)
+#define GATE_RECORD_BYTES (GATE_BYTES + sizeof(size_t)) /* the aims' length, for which no register is left */
 #define EQ_BYTES sizeof(hoofglaze_eq)
 #define EQ_SET_BYTES (EQ_BYTES + sizeof(hoofglaze_eq_numbers))
 #define TONE_BYTES (sizeof(hoofglaze_tone) + 4)
@@ -89,6 +90,7 @@
 #define BLOCKS(X)                                                                                          \
     X(hoofglaze_gate_block, GATE, GATE_BYTES, gate, BUFFERS)                                               \
     X(hoofglaze_gate_block_in_place, GATE, 0, &host_gate, BUFFERS)                                         \
+    X(hoofglaze_gate_record, GATE, GATE_RECORD_BYTES, gate, BUFFERS, aims, aim_bytes)                      \
     X(hoofglaze_clip_hard, CLIP, 0, value, BUFFERS)                                                        \
     X(hoofglaze_clip_triode, CLIP, 0, value, BUFFERS)                                                      \
     X(hoofglaze_eq_block, EQ, EQ_BYTES, eq, BUFFERS)                                                       \
@@ -98,6 +100,7 @@
 
 #define RECORDINGS(X)                                                                                      \
     X(hoofglaze_wave_read, WAVE, 0, file, file_bytes)                                                      \
-    X(hoofglaze_wave_write, WAVE, 0, file_rate, recorded, recorded_bytes, written, written_room)
+    X(hoofglaze_wave_write, WAVE, 0, file_rate, recorded, recorded_bytes, written, written_room)           \
+    X(hoofglaze_wave_head, WAVE, 0, file_rate, headed_bytes, written, written_room)
 
 #endif

@@ -1,5 +1,5 @@
-/* Checks of recordings beyond 32 bits: of the RIFF size and 8, of a place, of a length, of room. They are
- * lent near an end of what can be read or written, and most of each is never touched. */
+/* Checks of recordings and heads beyond 32 bits: of the RIFF size and 8, of a place, of a length, of room.
+ * They are lent near an end of what can be read or written, and most of each is never touched. */
 #include <stdio.h>
 
 #include "lent.h"
@@ -111,4 +111,52 @@ void large_write_checks(void)
     done("room of 2^32 + 10 bytes", 0, LARGE + 10);
     done("room of 2^32 + 49 bytes", MOST_LENT - (LARGE + 49), LARGE + 49);
     done("room of 2^31 bytes", 0, LARGE / 2);
+}
+
+/* ---- heads */
+
+/* A head before so many bytes that nothing wrote, all lent: to the file's end, with bytes behind, and cut. */
+static void headed(const char *name, uint32_t rate, uint64_t bytes)
+{
+    uint8_t head[44];
+    const hoofglaze_wave said = {0, rate, 44, bytes};
+    hoofglaze_written given = hoofglaze_wave_head(rate, bytes, head, sizeof head);
+    check_written(name, given, (hoofglaze_written){0, 44}, rate, bytes);
+    const uint8_t *from = lent_at(MOST_LENT - 44 - bytes, head, sizeof head);
+    check_readers(name, said, from, 44 + bytes);
+    check_readers(name, past, from, 43 + bytes);
+    from = lent_at(MOST_LENT - 1000 - bytes, head, sizeof head);
+    check_readers(name, said, from, 1000 + bytes);
+}
+
+/* Room whose lower 32 bits are too few. */
+static void head_in_room(const char *name, uint64_t room)
+{
+    static const uint8_t head[] = {RIFF(42), GOOD, HEAD("data", 6)};
+    uint8_t said[LOOKED_AT], *output = room_at(MOST_LENT - room);
+    memset(said, 0x5a, sizeof said);
+    memcpy(output, said, sizeof said);
+    memcpy(said, head, sizeof head);
+    lent_to("hoofglaze_wave_head");
+    hoofglaze_written given = hoofglaze_wave_head(48000, 6, output, room);
+    lent_to(0);
+    check_written(name, given, (hoofglaze_written){0, 44}, 6, room);
+    check(name, same_bytes(output, said, sizeof said), sizeof said, 6, room, 2);
+}
+
+void large_head_checks(void)
+{
+    group("recordings' heads: samples and room beyond 32 bits");
+    if (!can_lend_large())
+        return;
+    headed("the most", 48000, LARGE - 38);
+    headed("the most but one sample", 192000, LARGE - 40);
+    headed("2^32 bytes with the head", 8000, LARGE - 44);
+    headed("2^31 bytes", 44100, LARGE / 2);
+    headed("2^31 - 2 bytes", 96000, LARGE / 2 - 2);
+    headed("an hour", 48000, 345600000);
+    headed("a sample more than is written whole", 48000, MOST_RECORDED + 2);
+    head_in_room("room of 2^32 bytes", LARGE);
+    head_in_room("room of 2^32 + 43 bytes", LARGE + 43);
+    head_in_room("room of 2^31 bytes", LARGE / 2);
 }

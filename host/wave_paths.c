@@ -44,8 +44,27 @@ static void recordings_written(void)
     }
 }
 
+/* Heads of each answer, likewise. */
+static void heads(void)
+{
+    static const struct {
+        uint32_t rate;
+        uint64_t bytes;
+        size_t room;
+    } calls[] = {{48000, 0, 44},  {48000, 4294967258, 64}, {7999, 20, 64},
+                 {48000, 19, 64}, {48000, 4294967260, 64}, {48000, 20, 43}};
+    static uint8_t file[64];
+    for (int i = 0; i < COUNT(calls); i++) {
+        uint32_t rate = calls[i].rate;
+        uint64_t bytes = calls[i].bytes;
+        size_t room = calls[i].room;
+        SAME((written = hoofglaze_wave_head(rate, bytes, file, room), waved = hoofglaze_wave_read(file, 44)));
+    }
+}
+
 void wave_paths(void)
 {
     recordings_read();
     recordings_written();
+    heads();
 }

@@ -18,6 +18,7 @@ void check_written(const char *call, hoofglaze_written given, hoofglaze_written 
 size_t same_bytes(const uint8_t *given, const uint8_t *said, size_t bytes);
 
 void large_write_checks(void);
+void large_head_checks(void);
 void again_checks(void);
 
 #endif

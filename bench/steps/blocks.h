@@ -58,6 +58,17 @@ static hoofglaze_gate_answered gate_block(hoofglaze_gate g, const float *input, 
     return a;
 }
 
+static hoofglaze_gate_answered gate_record(hoofglaze_gate g, const float *input, size_t samples,
+                                           float *output, size_t places, uint8_t *aims, size_t bytes)
+{
+    hoofglaze_gate_answered a = {g, bytes == samples ? looked_at(input, samples, places) : refused(7, 0)};
+    for (size_t i = 0; a.answer.number == 0 && i < samples; i++) {
+        aims[i] = (uint8_t)gate_step(&a.gate.settings, &a.gate.registers, input[i], &output[i]);
+        a.answer.count += aims[i];
+    }
+    return a;
+}
+
 static hoofglaze_answer clip_hard(float drive, const float *input, size_t samples, float *output,
                                   size_t places)
 {
@@ -114,6 +125,6 @@ static hoofglaze_leveller_answered leveller_block(hoofglaze_leveller l, const fl
 }
 
 const struct offer OFFER = {
-    follower_step, blocker_step, gate_block,      clip_hard,      clip_triode,
-    eq_block,      tone_block,   saturator_block, leveller_block,
+    follower_step, blocker_step, gate_block, gate_record,     clip_hard,
+    clip_triode,   eq_block,     tone_block, saturator_block, leveller_block,
 };

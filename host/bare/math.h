@@ -6,6 +6,8 @@ double fabs(double x);
 double exp(double x);
 double pow(double x, double y);
 double log10(double x);
+double floor(double x);
+double ceil(double x);
 double sin(double x);
 double cos(double x);
 double sinh(double x);

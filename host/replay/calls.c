@@ -21,6 +21,11 @@ static size_t at_most(uint32_t n, size_t most)
     return n < most ? n : most;
 }
 
+size_t buffer_length(const uint8_t *head, int at)
+{
+    return at_most(word(head, at), LONGEST);
+}
+
 size_t name_length(const uint8_t *head, size_t room)
 {
     return at_most(word(head, 12), room);
@@ -47,8 +52,8 @@ void give_doubles(const void *from, int count)
 struct block *take_block(const uint8_t *lengths)
 {
     static struct block b;
-    b.samples = at_most(word(lengths, 0), LONGEST);
-    b.places = at_most(word(lengths, 4), LONGEST);
+    b.samples = buffer_length(lengths, 0);
+    b.places = buffer_length(lengths, 4);
     for (size_t i = 0; i < b.places; i++)
         b.output[i] = BEFORE;
     return take(b.input, b.samples * sizeof *b.input) ? &b : 0;

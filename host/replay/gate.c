@@ -74,6 +74,20 @@ static int block(uint32_t kind, const uint8_t *head)
     return 1;
 }
 
+static int record(const uint8_t *head)
+{
+    static uint8_t aims[LONGEST];
+    size_t bytes = buffer_length(head, 12);
+    struct block *b = take_block(head + 4);
+    if (!b)
+        return 0;
+    memset(aims, AIM_BEFORE, bytes);
+    tell(keep(hoofglaze_gate_record(kept, b->input, b->samples, b->output, b->places, aims, bytes)));
+    give(b->output, b->places * sizeof *b->output);
+    give(aims, bytes);
+    return 1;
+}
+
 int gate_next(void)
 {
     uint8_t head[GATE_HEAD];
@@ -82,6 +96,8 @@ int gate_next(void)
     uint32_t kind = word(head, 0);
     if (kind == 6 || kind == 10)
         return block(kind, head);
+    if (kind == 11)
+        return record(head);
     tell(call(kind, head));
     return 1;
 }

@@ -19,6 +19,7 @@ static const struct {
     {"leveller", leveller_next},
     {"wave", wave_next},
     {"wave_write", wave_write_next},
+    {"wave_head", wave_head_next},
 };
 
 int take(void *to, size_t bytes)
@@ -56,6 +57,6 @@ int main(int count, char **words)
         if (strcmp(words[1], stages[i].name) == 0)
             return replayed(stages[i].next);
     failed("it takes a stage: float, common, clipper, noise_gate, eq, tonestack, multiband_saturator, "
-           "leveller, wave, wave_write");
+           "leveller, wave, wave_write, wave_head");
     return 2;
 }

@@ -17,6 +17,7 @@ int saturator_next(void);
 int leveller_next(void);
 int wave_next(void);
 int wave_write_next(void);
+int wave_head_next(void);
 
 /* Whether so many bytes were there to be read. */
 int take(void *to, size_t bytes);
@@ -30,14 +31,18 @@ void give_doubles(const void *from, int count);
 uint32_t word(const uint8_t *head, int at);
 float number(const uint8_t *head, int at);
 
+/* A buffer's length, at most one more than a block may have. */
+size_t buffer_length(const uint8_t *head, int at);
+
 /* A name's length, of which no more is read than there is room for. */
 size_t name_length(const uint8_t *head, size_t room);
 
 /* Longer by one than a block may be. */
 enum { LONGEST = 4097 };
 
-/* What each sample of a buffer for the output is before the call. */
+/* What each sample of a buffer for the output is before the call, and each byte of one for aims. */
 #define BEFORE (-1000.0f)
+#define AIM_BEFORE 0xa5
 
 struct block {
     size_t samples, places;
@@ -49,6 +54,10 @@ struct block *take_block(const uint8_t *lengths);
 
 /* Reads a count and so many bytes: whether they were there and no more than the most. */
 int take_counted(uint8_t *to, uint32_t most, uint32_t *count);
+
+/* Reads a tile so, and fills so many bytes with it, from its start again and again: with 0s where it is
+ * empty. */
+int take_filled(uint8_t *to, size_t bytes);
 
 /* What the reader says of a recording. */
 void give_wave(hoofglaze_wave w);

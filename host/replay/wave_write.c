@@ -8,9 +8,8 @@ enum { MOST = 1 << 21, MOST_TILE = 1 << 16 };
 /* How much of the output stands in an answer; all of it is in the digest. */
 enum { SHOWN = 256 };
 
-/* The next tile, from its start again and again over so many bytes: 0s where it is empty. What is filled is
- * copied behind itself, so that a megabyte takes few steps. */
-static int take_filled(uint8_t *to, size_t bytes)
+/* What is filled is copied behind itself, so that a megabyte takes few steps. */
+int take_filled(uint8_t *to, size_t bytes)
 {
     static uint8_t tile[MOST_TILE];
     uint32_t count;

@@ -4,7 +4,7 @@ use oracle::{
     gap, power,
     random::Random,
     replay::Replay,
-    stages,
+    session, stages,
 };
 use std::{
     io::{self, Read, Write},
@@ -18,6 +18,10 @@ oracle answer STAGE                        reads a list and writes the answers
 oracle generate STAGE SEED CASES           writes a new list, of CASES of each kind
 oracle hold STAGE PROGRAM..                reads a list and compares a program on it
 oracle compare STAGE SEED CASES PROGRAM..  compares a program on new lists
+oracle session FILE.wav FILE.json [GATED.wav]
+                                           judges what the session tool says of a recording, and what it wrote
+oracle spans FILE.wav DB RATIO MS MS MS    the spans aimed open: threshold, ratio, attack, release, hold
+oracle gated FILE.wav DB RATIO MS MS MS    writes the file that such a gate makes of it
 oracle gap                                 measures a leveller's gain against the C library's power";
 
 fn main() -> ExitCode {
@@ -46,6 +50,14 @@ fn run(words: &[String]) -> Result<(), String> {
         ["compare", stage, seed, cases, ref program @ ..] if !program.is_empty() => {
             report(stage, number(seed)?, number(cases)?, program)
         }
+        ["session", wave, json] => session(wave, json, None),
+        ["session", wave, json, gated] => session(wave, json, Some(gated)),
+        ["spans", wave, ref settings @ ..] if settings.len() == 5 => {
+            write(session::spans(&file(wave)?, settings_of(settings)?)?.as_bytes())
+        }
+        ["gated", wave, ref settings @ ..] if settings.len() == 5 => {
+            write(&session::gated(&file(wave)?, settings_of(settings)?)?)
+        }
         ["gap"] => {
             println!("powf of {}", power::c_library());
             for ratio in [2.0, 4.0] {
@@ -67,6 +79,28 @@ fn report(stage: &str, seed: u64, cases: u64, program: &[&str]) -> Result<(), St
     let seconds = began.elapsed().as_secs();
     println!("{stage}: none differs ({seconds} s)");
     Ok(())
+}
+
+fn session(wave: &str, json: &str, gated: Option<&str>) -> Result<(), String> {
+    let json = String::from_utf8(file(json)?).map_err(|error| format!("{json}: {error}"))?;
+    let gated = gated.map(file).transpose()?;
+    println!(
+        "{}",
+        session::judged(&file(wave)?, &json, gated.as_deref())?
+    );
+    Ok(())
+}
+
+fn settings_of(words: &[&str]) -> Result<[f32; 5], String> {
+    let mut numbers = [0.0; 5];
+    for (number, word) in numbers.iter_mut().zip(words) {
+        *number = word.parse().map_err(|_| format!("not a number: {word}"))?;
+    }
+    Ok(numbers)
+}
+
+fn file(name: &str) -> Result<Vec<u8>, String> {
+    std::fs::read(name).map_err(|error| format!("{name}: {error}"))
 }
 
 fn owned(words: &[&str]) -> Vec<String> {

@@ -30,6 +30,9 @@ pub type Counts = BTreeMap<&'static str, u64>;
 /// What every sample of a buffer for the output is before the call.
 pub const BEFORE: f32 = -1000.0;
 
+/// What every byte of a buffer for aims is before the call.
+pub const AIM_BEFORE: u8 = 0xa5;
+
 /// The answer's number where no call has the number that was read.
 pub const NO_CALL: u32 = u32::MAX;
 

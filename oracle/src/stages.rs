@@ -3,7 +3,7 @@
 use crate::{
     clipper::Clipper, common::Common, eq::Eq, float::Float, gate::NoiseGate,
     leveller::LevellerStage, program::Program, replay::Replay, saturator::MultibandSaturator,
-    tonestack::ToneStack, wave::Wave, wave_write::WaveWrite,
+    tonestack::ToneStack, wave::Wave, wave_head::WaveHead, wave_write::WaveWrite,
 };
 
 pub fn named(name: &str) -> Option<&'static dyn Replay> {
@@ -19,6 +19,7 @@ pub fn named(name: &str) -> Option<&'static dyn Replay> {
         "program" => Some(&Program),
         "wave" => Some(&Wave),
         "wave_write" => Some(&WaveWrite),
+        "wave_head" => Some(&WaveHead),
         _ => None,
     }
 }

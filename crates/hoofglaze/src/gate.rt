@@ -6,8 +6,10 @@ use noise_gate::Answered;
 use noise_gate::Gate;
 use noise_gate::Passage;
 use noise_gate::Passed;
+use noise_gate::Ran;
 use noise_gate::Setting;
 ghost use mathlib.Core.Path.{_≡_};
+ghost use Rattle.noise_gate.specs.Answers.{toldBlock};
 ghost use Rattle.noise_gate.specs.Calls as calls;
 ghost use Rattle.noise_gate_settings.specs.declared.Setting.the-variants.{Threshold, Ratio, Attack, Release, Hold};
 ghost use Rattle.answer.specs.Crossing.{toldIn};
@@ -43,6 +45,17 @@ fn crossed(a: Answered) -> GateAnswered
     GateAnswered {
         gate: state,
         answer: answer::of_answer(answer),
+    }
+}
+
+fn ran(a: Ran) -> GateAnswered
+    ensures { λ r. ⌜ toldIn (r .gate) (r .answer) ≡ toldBlock (a .gate) (a .answer) ⌝ }
+{
+    let state = a.gate;
+    let answer = a.answer;
+    GateAnswered {
+        gate: state,
+        answer: passed(answer),
     }
 }
 
@@ -123,11 +136,17 @@ pub extern "C" fn hoofglaze_gate_reset(g: Gate) -> GateAnswered
 pub extern "C" fn hoofglaze_gate_block(g: Gate, input: &[f32], output: &mut [f32]) -> GateAnswered
     ensures { λ r. ⌜ (toldIn (r .gate) (r .answer), now (output .exit)) ≡ calls.block g (now (input .entry)) (now (output .entry)) ⌝ }
 {
-    let r = noise_gate::block(g, input, output);
-    let state = r.gate;
-    let answer = r.answer;
-    GateAnswered {
-        gate: state,
-        answer: passed(answer),
-    }
+    ran(noise_gate::block(g, input, output))
+}
+
+#[no_mangle]
+pub extern "C" fn hoofglaze_gate_record(
+    g: Gate,
+    input: &[f32],
+    output: &mut [f32],
+    aims: &mut [u8],
+) -> GateAnswered
+    ensures { λ r. ⌜ (toldIn (r .gate) (r .answer), now (output .exit), now (aims .exit)) ≡ calls.blockRecorded g (now (input .entry)) (now (output .entry)) (now (aims .entry)) ⌝ }
+{
+    ran(noise_gate::block_recorded(g, input, output, aims))
 }

@@ -1,14 +1,16 @@
--- The gate's calls: make, set, read, reset, block, with document 01's refusals in its order. Definitions only.
+-- The gate's calls: make, set, read, reset, block, block with a record, with document 01's refusals in its order. Definitions only.
 -- Assumes nothing.
 use Prim.Native.Nat.{ℕ}
-use mathlib.Core.Bool.{_&&_}
+use mathlib.Core.Bool.{Bool, _&&_, cond}
 use mathlib.Core.List.{List}
+use lib.Dec.{eqb}
+use lib.ListN.{length}
 use lib.Ieee.{Float}
 use Rattle.answer.specs.Figures.{f32, nought, one}
 use Rattle.answer.specs.Checks.{isRate, isSmoothing}
-use Rattle.answer.specs.Told.{Told, refused, done, doneWith, unless}
+use Rattle.answer.specs.Told.{Told, refused, done, doneWith, unless, whereDone}
 use Rattle.answer.specs.Blocks.{checkedBlock}
-use Rattle.answer.specs.declared.Refusal.the-variants.{NoSetting, OutOfRange, BadWorkedNumber, BadRate, BadState}
+use Rattle.answer.specs.declared.Refusal.the-variants.{NoSetting, OutOfRange, BadWorkedNumber, BadRate, LengthsDiffer, BadState}
 use Rattle.fold.specs.Fold.{stateAfter, outAfter, countAfter}
 use Rattle.noise_gate.specs.Figures.{madeHold}
 use Rattle.noise_gate_sample.specs.Step.{aim, output, next}
@@ -92,14 +94,24 @@ read g name = unless (acceptable g) (refused g BadState) (readFound g (named nam
 unfoldable pub reset : Gate → Told Gate
 reset g = unless (acceptable g) (refused g BadState) (done (gateOf (g .settings) atRest))
 
+-- ---- a sample's aim as a byte of a record: 1 open, 0 closed
+abbrev pub byteOf : Bool → ℕ
+byteOf b = cond b 1 0
+
+abbrev pub byteAt : Settings → Registers → Float → ℕ
+byteAt s m x = byteOf (aim s m x)
+
 -- ---- block: 9, 7, 8, 6
 module _ (s : Settings) (m : Registers) (xs : List Float) where
-  -- one sample after the other: what they leave, what they give, and how many of them are aimed open
+  -- one sample after the other: what they leave, what they give, how the gate aims at each, and how many of them are aimed open
   abbrev pub after : Registers
   after = stateAfter (next s) m xs
 
   abbrev pub outputs : List Float
   outputs = outAfter (next s) (output s) m xs
+
+  abbrev pub aimed : List ℕ
+  aimed = outAfter (next s) (byteAt s) m xs
 
   abbrev pub openCount : ℕ
   openCount = countAfter (next s) (aim s) m xs
@@ -111,3 +123,10 @@ module _ (s : Settings) (m : Registers) (xs : List Float) where
 -- a refusal leaves the buffer as it was
 unfoldable pub block : Gate → List Float → List Float → Told Gate × List Float
 block g xs out = checkedBlock g out (ran (g .settings) (g .registers) xs) (acceptable g) xs
+
+-- ---- block with a record of the aims: 9, 7 for a record that isn't as long as the samples, then `block`'s 9, 7, 8, 6. A refusal leaves the record as it was
+unfoldable pub blockRecorded : Gate → List Float → List Float → List ℕ → Told Gate × List Float × List ℕ
+blockRecorded g xs out aims =
+    unless (acceptable g) (refused g BadState, out, aims)
+    (unless (eqb (length xs) (length aims)) (refused g LengthsDiffer, out, aims)
+    (let t = block g xs out in (t .0, t .1, whereDone (t .0) (aimed (g .settings) (g .registers) xs) aims)))

@@ -2,9 +2,11 @@
 use crate::Answered;
 use crate::Gate;
 use crate::Passage;
+use crate::Passed;
 use crate::Ran;
 use crate::bounds;
 use crate::samples;
+use crate::samples::Moved;
 use answer::Answer;
 use answer::Check;
 use answer::Decibels;
@@ -17,6 +19,7 @@ use noise_gate_settings::Named;
 use noise_gate_settings::Setting;
 use noise_gate_settings::Settings;
 ghost use mathlib.Core.Path.{_≡_};
+ghost use Rattle.answer.specs.Figures.{nought};
 ghost use Rattle.answer.specs.Told as Told;
 ghost use Rattle.answer.specs.Told.{told, toldRead};
 ghost use Rattle.noise_gate.specs.Answers.{toldBlock};
@@ -170,22 +173,58 @@ pub fn reset(g: Gate) -> Answered
     done(g.settings, AT_REST)
 }
 
+fn block_refused(g: Gate, r: Refusal) -> Ran
+    ensures { λ a. ⌜ toldBlock (a .gate) (a .answer) ≡ Told.refused g r ⌝ }
+{
+    Ran {
+        gate: g,
+        answer: Passage::Refused(r),
+    }
+}
+
+fn block_done(s: Settings, m: Moved) -> Ran
+    ensures { λ a. ⌜ toldBlock (a .gate) (a .answer) ≡ Told.doneWith (Calls.gateOf s (m .registers)) (m .count) nought ⌝ }
+{
+    let next = m.registers;
+    Ran {
+        gate: Gate {
+            settings: s,
+            registers: next,
+        },
+        answer: Passage::Done(Passed { count: m.count }),
+    }
+}
+
 // A block of samples, and the buffer for its output: 9, 7, 8, 6.
 pub fn block(g: Gate, input: &[f32], output: &mut [f32]) -> Ran
     ensures { λ r. ⌜ (toldBlock (r .gate) (r .answer), now (output .exit)) ≡ Calls.block g (now (input .entry)) (now (output .entry)) ⌝ }
 {
     if !bounds::acceptable(g) {
-        return Ran {
-            gate: g,
-            answer: Passage::Refused(Refusal::BadState),
-        };
+        return block_refused(g, Refusal::BadState);
     }
     let found = answer::check_block(input, output.len());
     if let Check::Refused(r) = found {
-        return Ran {
-            gate: g,
-            answer: Passage::Refused(r),
-        };
+        return block_refused(g, r);
     }
-    samples::run(g.settings, g.registers, input, output)
+    let mut unread: [u8; 1] = [0];
+    let moved = samples::run(g.settings, g.registers, input, output, &mut unread);
+    block_done(g.settings, moved)
+}
+
+// The same with a record of where the gate aims, a byte for each sample: 9, 7, 8, 6.
+pub fn block_recorded(g: Gate, input: &[f32], output: &mut [f32], aims: &mut [u8]) -> Ran
+    ensures { λ r. ⌜ (toldBlock (r .gate) (r .answer), now (output .exit), now (aims .exit)) ≡ Calls.blockRecorded g (now (input .entry)) (now (output .entry)) (now (aims .entry)) ⌝ }
+{
+    if !bounds::acceptable(g) {
+        return block_refused(g, Refusal::BadState);
+    }
+    if !answer::lengths_agree(input.len(), aims.len()) {
+        return block_refused(g, Refusal::LengthsDiffer);
+    }
+    let found = answer::check_block(input, output.len());
+    if let Check::Refused(r) = found {
+        return block_refused(g, r);
+    }
+    let moved = samples::run(g.settings, g.registers, input, output, aims);
+    block_done(g.settings, moved)
 }

@@ -7,6 +7,7 @@ use answer::Answer;
 use answer::Refusal;
 pub use bounds::acceptable;
 pub use calls::block;
+pub use calls::block_recorded;
 pub use calls::make;
 pub use calls::read;
 pub use calls::reset;

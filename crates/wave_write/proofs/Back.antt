@@ -1,6 +1,6 @@
 -- What was written is a recording of the grammar, whatever lies behind it: so it is read, with the same rate and samples.
 -- Assumes nothing.
-use Prim.Native.Nat.{ℕ, _+_, _%_, _≤_}
+use Prim.Native.Nat.{ℕ, _+_, _%_, _≤_, _<_, _^_}
 use native.Mathlib.Omega.{arith}
 use mathlib.Core.Path.{_≡_, refl}
 use mathlib.Core.List.{List, [], _++_, append-assoc}
@@ -10,13 +10,13 @@ use Rattle.answer.specs.Figures.{lowestRate, highestRate}
 use Rattle.wave.specs.Grammar.{none, IsWave}
 use Rattle.wave.specs.Recordings.{Reads}
 use Rattle.wave.proofs.AllRead.{all-read}
-use Rattle.wave_write.specs.Writing.{longestData, riffFor, head, file}
+use Rattle.wave_write.specs.Writing.{riffFor, head, file}
 
 pub long : (rate : ℕ) (samples : List ℕ) → length (file rate samples) ≡ 44 + length samples
 long rate samples = length-append (head rate (length samples)) samples
 
 module _ (rate : ℕ) (samples rest : List ℕ) where
-  formed : lowestRate ≤ rate → rate ≤ highestRate → length samples % 2 ≡ 0 → length samples ≤ longestData → IsWave (file rate samples ++ rest) rate 44 (length samples)
+  formed : lowestRate ≤ rate → rate ≤ highestRate → length samples % 2 ≡ 0 → riffFor (length samples) < 2 ^ 32 → IsWave (file rate samples ++ rest) rate 44 (length samples)
   formed lowest highest even short = record {
     riff = riffFor (length samples);
     before = [];
@@ -34,7 +34,7 @@ module _ (rate : ℕ) (samples rest : List ℕ) where
     in-riff = omega arith;
   }
 
-  pub read-back : lowestRate ≤ rate → rate ≤ highestRate → length samples % 2 ≡ 0 → length samples ≤ longestData → Reads (file rate samples ++ rest) rate 44 (length samples)
+  pub read-back : lowestRate ≤ rate → rate ≤ highestRate → length samples % 2 ≡ 0 → riffFor (length samples) < 2 ^ 32 → Reads (file rate samples ++ rest) rate 44 (length samples)
   read-back lowest highest even short = all-read (file rate samples ++ rest) (formed lowest highest even short)
 
   pub samples-back : take (length samples) (drop 44 (file rate samples ++ rest)) ≡ samples

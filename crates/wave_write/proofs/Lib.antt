@@ -2,8 +2,10 @@
 pub mod Head
 pub mod Over
 pub mod Cases
+pub mod HeadCases
 pub mod Back
 pub mod Calls
 pub mod Again
 pub mod RoundTrips
+pub mod Streaming
 pub mod Examples

@@ -42,7 +42,7 @@ exactly = record {
 
 module _ (rate : ℕ) (samples out : List ℕ) (zero : write rate samples out .0 .number ≡ 0) where
   found : (rest : List ℕ) → Reads (file rate samples ++ rest) rate 44 (length samples)
-  found rest = let t = left rate samples out .tests zero in read-back rate samples rest (t .lowest) (t .highest) (t .even) (t .short)
+  found rest = let t = left rate samples out .tests zero in read-back rate samples rest (t .lowest) (t .highest) (t .even) (omega (arith, t .short))
 
   output : Reads (write rate samples out .1) rate 44 (length samples) × (samplesIn (write rate samples out .1) 44 (length samples) ≡ samples)
   output =

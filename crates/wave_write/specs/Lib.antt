@@ -2,3 +2,4 @@
 pub mod Answers
 pub mod Writing
 pub mod RoundTrips
+pub mod Streaming

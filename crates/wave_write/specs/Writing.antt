@@ -1,8 +1,8 @@
 -- Document 02's W8: a recording as the list of bytes that is written, and the call. Definitions only.
 -- Assumes nothing.
-use Prim.Native.Nat.{ℕ, _+_, _*_, _%_}
+use Prim.Native.Nat.{ℕ, _+_, _*_, _%_, _^_}
 use mathlib.Core.List.{List, _++_}
-use lib.Dec.{eqb, leb}
+use lib.Dec.{eqb, leb, ltb}
 use lib.ListN.{length}
 use Rattle.answer.specs.Buffers.{over}
 use Rattle.answer.specs.Names.{bytes}
@@ -42,3 +42,12 @@ write rate samples out =
     (unless (leb (length samples) longestData) (refused 17, out)
     (unless (leb (44 + length samples) (length out)) (refused 15, out)
     (done (44 + length samples), over (file rate samples) out))))
+
+-- ---- the head alone, for samples that a host writes behind it: any even length whose RIFF size fits in 32 bits. The same refusals in the same order
+unfoldable pub writeHead : ℕ → ℕ → List ℕ → Figures × List ℕ
+writeHead rate size out =
+    unless (isRate rate) (refused 5, out)
+    (unless (eqb (size % 2) 0) (refused 14, out)
+    (unless (ltb (riffFor size) (2 ^ 32)) (refused 17, out)
+    (unless (leb 44 (length out)) (refused 15, out)
+    (done 44, over (head rate size) out))))

@@ -9,7 +9,7 @@ ghost use Rattle.answer.specs.Buffers.{over};
 ghost use Rattle.wave_write.specs.Answers as Answers;
 ghost use Rattle.wave_write.specs.Writing as Writing;
 
-// How many bytes the file has; or why there is none.
+// How many bytes were written; or why there are none.
 pub enum Written {
     Done(u32),
     Refused(Fault),
@@ -32,6 +32,9 @@ pub struct Figures {
 
 // The most bytes of samples.
 const LONGEST: usize = 1048576;
+
+// The most behind a head of its own: with the 36 bytes that the RIFF size counts beside them, 2^32 - 1.
+const LONGEST_BEHIND: u64 = 4294967259;
 
 // The bytes before the samples.
 const HEAD: usize = 44;
@@ -101,4 +104,24 @@ pub fn write(rate: u32, samples: &[u8], output: &mut [u8]) -> Written
     }
     put_file(rate, samples, output);
     Written::Done(size as u32)
+}
+
+// The head alone, for so many bytes of samples that a host writes behind it.
+pub fn write_head(rate: u32, size: u64, output: &mut [u8]) -> Written
+    ensures { λ r. ⌜ (Answers.told r, now (output .exit)) ≡ Writing.writeHead rate size (now (output .entry)) ⌝ }
+{
+    if !wave::is_rate(rate) {
+        return Written::Refused(Fault::BadRate);
+    }
+    if size % 2 != 0 {
+        return Written::Refused(Fault::OddData);
+    }
+    if LONGEST_BEHIND < size {
+        return Written::Refused(Fault::TooLong);
+    }
+    if output.len() < HEAD {
+        return Written::Refused(Fault::NoRoom);
+    }
+    put_head(rate, size as u32, output);
+    Written::Done(HEAD as u32)
 }

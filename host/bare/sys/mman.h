@@ -10,5 +10,7 @@
 #define MAP_NORESERVE 0x4000
 #define MAP_FAILED ((void *)-1)
 void *mmap(void *at, __SIZE_TYPE__ bytes, int protection, int flags, int file, long from);
+#define MADV_DONTNEED 4
+int madvise(void *at, __SIZE_TYPE__ bytes, int advice);
 int munmap(void *at, __SIZE_TYPE__ bytes);
 int memfd_create(const char *name, unsigned flags);

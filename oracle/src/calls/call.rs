@@ -16,6 +16,8 @@ pub enum Call {
     Reset,
     /// Samples, and how many the buffer for the output has.
     Block(Vec<f32>, usize),
+    /// A block that also tells each sample's aim, and how many bytes the buffer for the aims has. The gate's alone.
+    Record(Vec<f32>, usize, usize),
     /// A host hands a state's numbers back.
     Load(Vec<u8>),
     /// The state's numbers.
@@ -39,6 +41,7 @@ impl Call {
             Self::Read(_) => "readings",
             Self::Reset => "resets",
             Self::Block(..) => "blocks",
+            Self::Record(..) => "blocks with a record",
             Self::Load(_) => "states handed back",
             Self::Tell => "states told",
             Self::Unknown(_) => "no call",
@@ -53,6 +56,7 @@ impl Call {
             Self::Read(_) => (4, 0, 0),
             Self::Reset => (5, 0, 0),
             Self::Block(samples, places) => (6, samples.len() as u32, *places as u32),
+            Self::Record(..) => unreachable!("only a gate has aims"),
             Self::Load(_) => (7, 0, 0),
             Self::Tell => (8, 0, 0),
             &Self::Unknown(number) => (number, 0, 0),

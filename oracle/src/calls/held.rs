@@ -6,7 +6,7 @@ use super::{
 use crate::{
     bits::bits32,
     limits::block_refused,
-    replay::{BEFORE, NO_CALL},
+    replay::{AIM_BEFORE, BEFORE, NO_CALL},
 };
 
 /// What a call tells: document 01's number, value, place and open count, and what stands behind them.
@@ -57,7 +57,8 @@ impl<S: Rules> Held<S> {
             Call::SetNamed(name, value, worked) => self.set(name, *value, Taker(worked)),
             Call::Read(name) => self.read(name),
             Call::Reset => self.reset(),
-            Call::Block(input, places) => self.block(input, *places),
+            Call::Block(input, places) => self.block(input, *places, None),
+            Call::Record(input, places, bytes) => self.block(input, *places, Some(*bytes)),
             Call::Tell => Ok(Told {
                 behind: self.state.numbers(),
                 ..Told::default()
@@ -141,25 +142,52 @@ impl<S: Rules> Held<S> {
         Ok(Told::default())
     }
 
-    /// 9, 7, 8, 6.
-    fn block(&mut self, input: &[f32], places: usize) -> Result<Told, String> {
-        let output = singles(&vec![BEFORE; places]);
-        let Some(rust) = &mut self.rust else {
-            return Ok(Told {
-                behind: output,
-                ..Told::refused(9)
-            });
-        };
-        if let Some((number, place)) = block_refused(input, places) {
+    /// The number and the place that refuse a block, if anything does: 9, 7, 8, 6. A buffer for aims is the third whose
+    /// length 7 looks at.
+    fn block_refused(
+        &self,
+        input: &[f32],
+        places: usize,
+        aims: Option<usize>,
+    ) -> Option<(u32, u64)> {
+        if self.rust.is_none() {
+            Some((9, 0))
+        } else if aims.is_some_and(|bytes| bytes != input.len()) {
+            Some((7, 0))
+        } else {
+            block_refused(input, places)
+        }
+    }
+
+    /// A block, and behind its output the aims, where there is a buffer of so many bytes for them.
+    fn block(&mut self, input: &[f32], places: usize, aims: Option<usize>) -> Result<Told, String> {
+        if let Some((number, place)) = self.block_refused(input, places, aims) {
+            let mut behind = singles(&vec![BEFORE; places]);
+            behind.extend(vec![Number::Byte(AIM_BEFORE); aims.unwrap_or(0)]);
             return Ok(Told {
                 place,
-                behind: output,
+                behind,
                 ..Told::refused(number)
             });
         }
+        let (output, open) = self.ran(input)?;
+        let mut behind = singles(&output);
+        if aims.is_some() {
+            behind.extend(open.iter().map(|&open| Number::Byte(open.into())));
+        }
+        Ok(Told {
+            count: open.iter().map(|&open| u64::from(open)).sum(),
+            behind,
+            ..Told::default()
+        })
+    }
+
+    /// The outputs of samples that are accepted, and whether the gate aimed open at each.
+    fn ran(&mut self, input: &[f32]) -> Result<(Vec<f32>, Vec<bool>), String> {
         let mut output = input.to_vec();
+        let rust = self.rust.as_mut().expect("a state that 9 accepts");
         let shown = rust.block(&self.state, &mut output);
-        let mut count = 0;
+        let mut open = Vec::with_capacity(input.len());
         for (place, (&input, &output)) in input.iter().zip(&output).enumerate() {
             let rule = self.state.sample(input);
             let seen = self.state.seen();
@@ -169,14 +197,10 @@ impl<S: Rules> Held<S> {
                     "sample {place}, {input}: {rule}, {seen:x?}, the Rust {output}, {rust:x?}"
                 ));
             }
-            count += u64::from(seen.open);
+            open.push(seen.open);
         }
         self.agrees()?;
-        Ok(Told {
-            count,
-            behind: singles(&output),
-            ..Told::default()
-        })
+        Ok((output, open))
     }
 
     /// Whether the Rust holds the numbers that document 01 says.

@@ -51,8 +51,13 @@ impl<'a, S: Listed> List<'a, S> {
 
     /// Sessions, until the list's done blocks have so many samples.
     pub fn sessions(&mut self, samples: u64) {
+        self.until(samples, S::session);
+    }
+
+    /// The same with sessions of one kind.
+    pub fn until(&mut self, samples: u64, session: fn(&mut Self)) {
         while self.samples < samples {
-            S::session(self);
+            session(self);
         }
     }
 
@@ -65,6 +70,13 @@ impl<'a, S: Listed> List<'a, S> {
         self.samples += samples.len() as u64;
         let places = samples.len();
         self.add(Call::Block(samples, places));
+    }
+
+    /// The same with a record.
+    pub fn record(&mut self, samples: Vec<f32>) {
+        self.samples += samples.len() as u64;
+        let places = samples.len();
+        self.add(Call::Record(samples, places, places));
     }
 }
 

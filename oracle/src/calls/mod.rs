@@ -216,7 +216,7 @@ impl<S: Listed> Replay for Called<S> {
             let told = held.told(&call).expect("a list that was answered");
             *counts.entry(call.name()).or_default() += 1;
             *counts.entry(answered(told.number)).or_default() += 1;
-            if let (Call::Block(input, _), 0) = (&call, told.number) {
+            if let (Call::Block(input, _) | Call::Record(input, ..), 0) = (&call, told.number) {
                 *counts.entry("samples of done blocks").or_default() += input.len() as u64;
             }
         }

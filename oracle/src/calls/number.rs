@@ -3,6 +3,7 @@ use crate::bits::{bits32, bits64};
 
 #[derive(Clone, Copy, Debug)]
 pub enum Number {
+    Byte(u8),
     Whole(u32),
     Long(u64),
     Single(f32),
@@ -13,6 +14,7 @@ impl Number {
     /// Its bytes as it is, a NaN's too.
     fn kept(self) -> Vec<u8> {
         match self {
+            Self::Byte(n) => vec![n],
             Self::Whole(n) => n.to_le_bytes().into(),
             Self::Long(n) => n.to_le_bytes().into(),
             Self::Single(x) => x.to_bits().to_le_bytes().into(),
@@ -23,6 +25,7 @@ impl Number {
     /// Its bytes in an answer, where every NaN is the same.
     fn told(self) -> Vec<u8> {
         match self {
+            Self::Byte(n) => vec![n],
             Self::Whole(n) => n.to_le_bytes().into(),
             Self::Long(n) => n.to_le_bytes().into(),
             Self::Single(x) => (bits32(x) as u32).to_le_bytes().into(),

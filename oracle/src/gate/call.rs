@@ -41,13 +41,14 @@ pub fn bytes(call: &Call, in_place: bool) -> Vec<u8> {
         Call::Reset => 5 + 4 * u32::from(in_place),
         Call::Block(..) => 6 + 4 * u32::from(in_place),
         Call::Load(_) => 7,
+        Call::Record(..) => 11,
         Call::Tell => unreachable!("every answer of a gate tells its state"),
         &Call::Unknown(number) => number,
     };
     let mut bytes = words(&[number]);
     bytes.extend(taken(call));
     bytes.resize(LENGTH, 0);
-    if let Call::Block(samples, _) = call {
+    if let Call::Block(samples, _) | Call::Record(samples, ..) = call {
         bytes.extend(single_bytes(samples));
     }
     bytes
@@ -66,6 +67,9 @@ fn taken(call: &Call) -> Vec<u8> {
         }
         Call::Read(name) => [vec![0; 8], sized(name)].concat(),
         Call::Block(samples, places) => words(&[samples.len() as u32, *places as u32]),
+        Call::Record(samples, places, aims) => {
+            words(&[samples.len() as u32, *places as u32, *aims as u32])
+        }
         Call::Load(state) => state.clone(),
         Call::Reset | Call::Tell | Call::Unknown(_) => Vec::new(),
     }
@@ -80,14 +84,14 @@ pub fn list(bytes: &[u8]) -> impl Iterator<Item = (Call, &'static str)> + '_ {
     let mut rest = bytes;
     std::iter::from_fn(move || {
         let (head, behind) = rest.split_at_checked(LENGTH)?;
-        let (call, form) = read(head);
+        let (mut call, form) = read(head);
         rest = behind;
-        let Call::Block(samples, places) = call else {
-            return Some((call, form));
-        };
-        let (held, behind) = rest.split_at_checked(4 * samples.len())?;
-        rest = behind;
-        Some((Call::Block(Taker(held).singles(), places), form))
+        if let Call::Block(samples, _) | Call::Record(samples, ..) = &mut call {
+            let (held, behind) = rest.split_at_checked(4 * samples.len())?;
+            rest = behind;
+            *samples = Taker(held).singles();
+        }
+        Some((call, form))
     })
 }
 
@@ -107,13 +111,14 @@ fn read(head: &[u8]) -> (Call, &'static str) {
         5 | 9 => Call::Reset,
         6 | 10 => Call::Block(vec![0.0; length(4)], length(8)),
         7 => Call::Load(head[4..].to_vec()),
+        11 => Call::Record(vec![0.0; length(4)], length(8), length(12)),
         number => Call::Unknown(number),
     };
     let in_place = (8..=10).contains(&number);
     (call, if in_place { "in place" } else { "by value" })
 }
 
-/// An answer's bytes: what the call tells, the gate after it, and a block's output.
+/// An answer's bytes: what the call tells, the gate after it, a block's output and its aims.
 pub fn answer(gate: &Gate, told: &Told) -> Vec<u8> {
     let mut numbers = vec![Number::Whole(told.number), Number::Single(told.value)];
     numbers.extend([told.place, told.count].map(Number::Long));

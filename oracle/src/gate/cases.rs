@@ -16,7 +16,7 @@ use crate::{
 const STORED: u64 = 300_000;
 
 /// The stored list: every refusal, every length, the borders; a made gate as it is; then sessions; a
-/// record of each number that no call has, and one that ends too soon.
+/// call of each number that no call has; the same again of blocks with a record; and one that ends too soon.
 pub fn stored() -> Vec<u8> {
     let mut random = Random::new(4);
     let mut list = List::<Gate>::new(&mut random);
@@ -27,16 +27,17 @@ pub fn stored() -> Vec<u8> {
     list.lengths();
     list.refused_samples();
     list.kept_states_refused();
-    list.sessions(STORED);
+    list.until(STORED, List::session);
     list.at_the_level();
     list.add(Call::Unknown(u32::MAX));
     list.bytes.extend([0; 64]);
-    list.bytes.extend([3; 63]);
+    list.bytes.extend([3; 64]);
+    list.records();
     list.bytes
 }
 
 /// Settings at 8,000 Hz with short times, so that a block opens and closes the gate many times.
-const QUICK: Gate = Gate {
+pub(super) const QUICK: Gate = Gate {
     rate: 8_000.0,
     threshold: -12.0,
     factor: 0.25,

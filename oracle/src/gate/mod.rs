@@ -1,8 +1,12 @@
 //! The noise gate. Its calls are those of the other stages, in bytes of its own: 64 for a call, with a block's
-//! samples behind them, and setting by name, reset and block both by value and on the gate where it lies.
+//! samples behind them, and setting by name, reset and block both by value and on the gate where it lies; and a block
+//! with a record of the aims.
 mod call;
 mod cases;
+#[cfg(test)]
+mod needs;
 mod numbers;
+mod records;
 mod rules;
 mod rust;
 mod session;
@@ -22,7 +26,11 @@ impl Listed for Gate {
     }
 
     fn session(list: &mut List<Self>) {
-        list.session();
+        if list.random.coin() {
+            list.session();
+        } else {
+            list.recorded_session();
+        }
     }
 
     /// By value or in place.

@@ -3,6 +3,7 @@ use super::{
     call,
     cases::{OTHERS, settings},
     numbers,
+    records::OVER,
     rules::Gate,
     setting::{NAMES, Setting},
 };
@@ -57,7 +58,7 @@ impl List<'_, Gate> {
     }
 
     /// A setting as another gate has it; `gate` with it taken.
-    fn changed(&mut self, gate: Gate) -> Gate {
+    pub(super) fn changed(&mut self, gate: Gate) -> Gate {
         let other = numbers::acceptable(self.random);
         let setting = self.random.pick(&settings(&other));
         self.set(setting, setting.worked().unwrap_or(f32::INFINITY));
@@ -105,5 +106,63 @@ impl List<'_, Gate> {
         self.add(Call::Block(vec![0.5, f32::NAN], 2));
         let places = self.random.below(3) as usize;
         self.add(Call::Block(vec![0.5], places));
+    }
+
+    /// A gate made and set, or handed back; records and plain blocks on it, between calls that change it or are refused.
+    pub(super) fn recorded_session(&mut self) {
+        let mut gate = numbers::acceptable(self.random);
+        if self.random.below(16) == 0 {
+            let spoilt = self.random.pick(&numbers::spoilt(&gate));
+            self.add(call::load(spoilt));
+            self.drawn_refused_record(&gate);
+        }
+        if self.random.below(4) > 0 {
+            self.made(&gate);
+        } else {
+            self.add(call::load(gate));
+        }
+        for _ in 0..self.random.between(1, 8) {
+            let length = signals::length(self.random);
+            if self.random.below(4) == 0 {
+                self.drawn(&gate, length);
+            } else {
+                self.drawn_record(&gate, length);
+            }
+            match self.random.below(6) {
+                0 => self.add(Call::Reset),
+                1 => self.drawn_refused_record(&gate),
+                2 => gate = self.changed(gate),
+                3 => gate = self.held(gate),
+                _ => {}
+            }
+        }
+    }
+
+    /// A hold of a few samples, so that aims outlast loudness by so many.
+    fn held(&mut self, gate: Gate) -> Gate {
+        let samples = self.random.below(40) as f32;
+        let setting = Setting::Hold(samples * 1_000.0 / gate.rate);
+        self.set(setting, f32::NAN);
+        setting.taken(gate)
+    }
+
+    /// A record that 7, 8 or 6 refuses, or more of them; an empty one may be done.
+    fn drawn_refused_record(&mut self, gate: &Gate) {
+        let length = match self.random.below(40) {
+            0 => OVER,
+            _ => self.random.below(30) as usize,
+        };
+        let mut samples = signals::drawn(gate.factor, length, self.random);
+        let other = self.random.below(30) as usize;
+        let (places, aims) = match self.random.below(4) {
+            0 => (other, length),
+            1 => (length, other),
+            2 => (other, other),
+            _ => (length, length),
+        };
+        if length > 0 && (length == places && length == aims || self.random.coin()) {
+            samples[self.random.below(length as u64) as usize] = refused_sample(self.random);
+        }
+        self.add(Call::Record(samples, places, aims));
     }
 }

@@ -3,7 +3,7 @@
 //! The samples between are the Rust gate's, with the program's settings; the 16-bit rule is document
 //! 01's, written here (`sample.rs`). A list is the bytes of the program's standard input.
 mod cases;
-mod sample;
+pub(crate) mod sample;
 
 use crate::{
     random::Random,

@@ -103,25 +103,25 @@ pub fn calls(list: &[u8]) -> impl Iterator<Item = Call> {
     })
 }
 
-fn word(list: &[u8]) -> Option<(u32, &[u8])> {
+pub fn word(list: &[u8]) -> Option<(u32, &[u8])> {
     let (word, behind) = list.split_first_chunk::<4>()?;
     Some((u32::from_le_bytes(*word), behind))
 }
 
-fn count(list: &[u8], most: usize) -> Option<(usize, &[u8])> {
+pub fn count(list: &[u8], most: usize) -> Option<(usize, &[u8])> {
     let (count, behind) = word(list)?;
     let count = count as usize;
     (count <= most).then_some((count, behind))
 }
 
-fn tile(list: &[u8]) -> Option<(Vec<u8>, &[u8])> {
+pub fn tile(list: &[u8]) -> Option<(Vec<u8>, &[u8])> {
     let (length, behind) = count(list, LONGEST_TILE)?;
     let (tile, behind) = behind.split_at_checked(length)?;
     Some((tile.to_vec(), behind))
 }
 
 /// So many bytes of a tile in a row, zeros where it is empty.
-fn filled(tile: &[u8], length: usize) -> Vec<u8> {
+pub fn filled(tile: &[u8], length: usize) -> Vec<u8> {
     if tile.is_empty() {
         return vec![0; length];
     }

@@ -44,7 +44,7 @@ fn made(random: &mut Random) -> Made {
     Made { call, refusals }
 }
 
-fn refused_rate(random: &mut Random) -> u32 {
+pub fn refused_rate(random: &mut Random) -> u32 {
     let below = random.below(8_000) as u32;
     let above = 192_001 + (random.bits32() >> random.between(1, 14));
     let by_its_low_bits = accepted_rate(random) | 1 << random.between(18, 31);
@@ -103,7 +103,7 @@ fn bytes(length: u64, random: &mut Random) -> Vec<u8> {
 }
 
 /// What lies in the output: nothing, any bytes, or an earlier file, with chunks of all kinds or as the writer leaves it.
-fn before(random: &mut Random) -> Vec<u8> {
+pub fn before(random: &mut Random) -> Vec<u8> {
     let few = 1 + random.below(61);
     let earlier = 2 * random.below(100);
     match random.below(6) {

@@ -1,18 +1,18 @@
 //! The writer of WAVE files: document 02's W8. There is no Rust of it, so the model alone answers; its own tests hold it to
 //! rows written out by hand, to laws, and to files that other programs made.
 //! `oracle/README.md` says what stands where in a call and in its answer.
-mod before;
-mod call;
+pub(crate) mod before;
+pub(crate) mod call;
 mod cases;
-mod drawn;
+pub(crate) mod drawn;
 #[cfg(test)]
 mod laws;
-mod made;
-mod numbers;
+pub(crate) mod made;
+pub(crate) mod numbers;
 mod refusals;
 #[cfg(test)]
 mod rows;
-mod rules;
+pub(crate) mod rules;
 
 use crate::{
     random::Random,

@@ -36,9 +36,8 @@ const RATES: [u32; 27] = [
     u32::MAX,
 ];
 
-/// Each rate with no samples and just enough room, and with some samples and more room. Rates of the table, around every
-/// power of two, and accepted ones with a higher bit set or their bytes in reverse.
-pub fn rates() -> Vec<Call> {
+/// Rates of the table, around every power of two, and accepted ones with a higher bit set or their bytes in reverse.
+pub fn tried_rates() -> Vec<u32> {
     let mut rates = RATES.to_vec();
     for power in 0..32 {
         let power = 1 << power;
@@ -50,8 +49,13 @@ pub fn rates() -> Vec<Call> {
     }
     rates.sort_unstable();
     rates.dedup();
+    rates
+}
+
+/// Each rate with no samples and just enough room, and with some samples and more room.
+pub fn rates() -> Vec<Call> {
     let calls = |rate| [at(rate, 0, HEAD), at(rate, 4, HEAD + 6)];
-    rates.into_iter().flat_map(calls).collect()
+    tried_rates().into_iter().flat_map(calls).collect()
 }
 
 /// Each length with room for the samples alone, and around the file's.

@@ -77,7 +77,8 @@ impl Field {
     }
 }
 
-fn head(rate: u32, length: u32) -> Vec<u8> {
+/// What stands before so many bytes of samples.
+pub fn head(rate: u32, length: u32) -> Vec<u8> {
     use Field::{Half, Name, Word};
     let fields = [
         Name(b"RIFF"),

@@ -1,0 +1,2 @@
+-- What the record of a block says, proved.
+pub mod Recorded

@@ -1,0 +1,2 @@
+-- What the record of a block says.
+pub mod Recorded

@@ -1,0 +1,1 @@
+// What the record of a block says: laws only.

@@ -1,0 +1,4 @@
+/* What C's <stdarg.h> has that this project uses, for a compiler that comes without C's headers. */
+typedef __builtin_va_list va_list;
+#define va_start(list, last) __builtin_va_start(list, last)
+#define va_end(list) __builtin_va_end(list)

@@ -1,0 +1,112 @@
+/* One JSON object, on one line: the recording, the settings with their worked numbers, and each span as it
+ * ends, or each run that is compared. Floats have nine digits and doubles seventeen: all are exact. */
+#include "json.h"
+
+#include "settings.h"
+#include "words.h"
+
+static void text(FILE *to, const char *name)
+{
+    fputc('"', to);
+    for (const char *at = name; *at;) {
+        size_t bytes = character(at);
+        if (bytes == 0)
+            fputs("\\ufffd", to);
+        else if (*at == '"' || *at == '\\')
+            fprintf(to, "\\%c", *at);
+        else if (bytes == 1 && (unsigned char)*at < 0x20)
+            fprintf(to, "\\u%04x", (unsigned)*at);
+        else
+            fwrite(at, 1, bytes, to);
+        at += bytes ? bytes : 1;
+    }
+    fputc('"', to);
+}
+
+static void number(FILE *to, const char *name, float value)
+{
+    fprintf(to, ",\"%s\":%.9g", name, (double)value);
+}
+
+static void settings_of(FILE *to, const hoofglaze_gate_settings *g)
+{
+    fprintf(to, ",\"settings\":{\"threshold_db\":%.9g", (double)g->threshold.decibels);
+    number(to, "factor", g->factor.factor);
+    number(to, "ratio", g->ratio);
+    number(to, "attack_ms", g->attack);
+    number(to, "opening", g->opening);
+    number(to, "release_ms", g->release);
+    number(to, "closing", g->closing);
+    number(to, "hold_ms", g->hold);
+    fprintf(to, ",\"hold_samples\":%llu", (unsigned long long)hold_samples(g));
+    number(to, "rising", g->rising);
+    number(to, "falling", g->falling);
+    fputc('}', to);
+}
+
+static void equaliser(FILE *to, const struct session *s)
+{
+    const char *between = "";
+    fputs(",\"eq\":[", to);
+    for (int i = 0; i < BANDS; i++) {
+        const hoofglaze_eq_band *b = &s->equaliser.settings.bands[i];
+        const hoofglaze_eq_numbers *n = &b->numbers;
+        if (!s->asked->equaliser.is_set[i])
+            continue;
+        fprintf(to, "%s{\"band\":%d,\"db\":%.9g", between, i, (double)b->value.decibels);
+        fprintf(to, ",\"b0\":%.17g,\"b1\":%.17g,\"b2\":%.17g,\"a1\":%.17g,\"a2\":%.17g}", n->b0, n->b1, n->b2,
+                n->a1, n->a2);
+        between = ",";
+    }
+    fputc(']', to);
+}
+
+void json_begins(const struct session *s)
+{
+    const struct recording *r = &s->recording;
+    hoofglaze_gate usual = gate_with(&s->asked->values, r->rate);
+    fputs("{\"file\":", s->json);
+    text(s->json, r->name);
+    fprintf(s->json, ",\"rate\":%u,\"samples\":%llu,\"ms\":%.3f", (unsigned)r->rate,
+            (unsigned long long)r->samples, milliseconds(r, r->samples));
+    settings_of(s->json, &usual.settings);
+    equaliser(s->json, s);
+    fputs(s->asked->runs ? ",\"runs\":[" : ",\"spans\":[", s->json);
+}
+
+void json_span(const struct session *s, const struct span *p)
+{
+    const struct recording *r = &s->recording;
+    fprintf(s->json, "%s{\"from\":%llu,\"to\":%llu,\"from_ms\":%.3f,\"to_ms\":%.3f}",
+            s->run[0].passage.spans > 1 ? "," : "", (unsigned long long)p->from, (unsigned long long)p->to,
+            milliseconds(r, p->from), milliseconds(r, p->to));
+}
+
+static void run_of(FILE *to, const struct run *r)
+{
+    const hoofglaze_gate_settings *g = &r->gate.settings;
+    const struct passage *p = &r->passage;
+    fprintf(to, "{\"threshold_db\":%.9g", (double)g->threshold.decibels);
+    number(to, "factor", g->factor.factor);
+    number(to, "hold_ms", g->hold);
+    fprintf(to, ",\"hold_samples\":%llu,\"open\":%llu,\"spans\":%llu", (unsigned long long)hold_samples(g),
+            (unsigned long long)p->open, (unsigned long long)p->spans);
+    if (p->spans)
+        fprintf(to, ",\"first\":%llu,\"end\":%llu}", (unsigned long long)p->first,
+                (unsigned long long)p->last.to);
+    else
+        fputs(",\"first\":null,\"end\":null}", to);
+}
+
+void json_ends(const struct session *s)
+{
+    if (!s->asked->runs) {
+        fprintf(s->json, "],\"open\":%llu}\n", (unsigned long long)s->run[0].passage.open);
+        return;
+    }
+    for (int i = 0; i < s->runs; i++) {
+        fputs(i ? "," : "", s->json);
+        run_of(s->json, &s->run[i]);
+    }
+    fputs("]}\n", s->json);
+}

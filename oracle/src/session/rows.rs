@@ -1,0 +1,249 @@
+//! Rows by hand: a click in silence, where the gate aims open by document 01's words, and JSONs that say it and that don't.
+//!
+//! At 8,000 Hz the follower's numbers are exp(-1.25) = 0.2865 and exp(-1/80). A click of 1/2 at sample 100 brings the level to
+//! 0.7135 / 2 = 0.3567, and from there it falls to 0.01, -40 dB, in 80 * ln(35.67) = 285.9 samples: 100 to 385 are loud. A hold
+//! of 100 ms is 800 samples: of those behind 385 the next 799 are aimed open.
+use super::{judged, spans};
+use crate::wave_write::rules::head;
+use rustortion_core::amp::stages::eq::EqStage;
+
+const CLICK: (usize, usize) = (100, 1_185);
+
+fn file(rate: u32, samples: &[i16]) -> Vec<u8> {
+    let mut file = head(rate, 2 * samples.len() as u32);
+    file.extend(samples.iter().flat_map(|n| n.to_le_bytes()));
+    file
+}
+
+/// Two seconds with a click in them.
+fn click() -> Vec<u8> {
+    let mut samples = [0; 16_000];
+    samples[100] = 16_384;
+    file(8_000, &samples)
+}
+
+const SETTINGS: &str = r#""settings":{"threshold_db":-40,"factor":0.00999999978,"ratio":10,"attack_ms":1,"opening":0.882496893,"release_ms":100,"closing":0.998750806,"hold_ms":100,"hold_samples":800,"rising":0.286504805,"falling":0.987577796}"#;
+const SPANS: &str =
+    r#""eq":[],"spans":[{"from":100,"to":1185,"from_ms":12.500,"to_ms":148.125}],"open":1085"#;
+
+fn json() -> String {
+    format!(
+        r#"{{"file":"click.wav","rate":8000,"samples":16000,"ms":2000.000,{SETTINGS},{SPANS}}}"#
+    )
+}
+
+/// What is said of the JSON with a part of it changed.
+fn with(part: &str, other: &str) -> Result<String, String> {
+    let json = json();
+    assert_eq!(json.matches(part).count(), 1, "{part}");
+    judged(&click(), &json.replace(part, other), None)
+}
+
+#[test]
+fn a_click() {
+    let line = "16000 samples, 1 spans: as the Rust aims";
+    assert_eq!(judged(&click(), &json(), None), Ok(line.into()));
+    assert_eq!(judged(&click(), &(json() + "\n"), None), Ok(line.into()));
+    let lines = format!("{} {}\n1085 of 16000\n", CLICK.0, CLICK.1);
+    assert_eq!(spans(&click(), [-40.0, 10.0, 1.0, 100.0, 100.0]), Ok(lines));
+}
+
+#[test]
+fn wrong_ones() {
+    let wrong = [
+        (r#""from":100"#, r#""from":101"#, "span 0"),
+        (r#""from":100"#, r#""from":99"#, "span 0"),
+        (r#""to":1185"#, r#""to":1186"#, "span 0"),
+        (r#""to":1185"#, r#""to":1184"#, "span 0"),
+        (r#""open":1085"#, r#""open":1084"#, "open"),
+        (r#""open":1085"#, r#""open":1086"#, "open"),
+        (
+            r#"148.125}]"#,
+            r#"148.125},{"from":2000,"to":2001,"from_ms":250,"to_ms":250.125}]"#,
+            "spans",
+        ),
+        (
+            r#"[{"from":100,"to":1185,"from_ms":12.500,"to_ms":148.125}]"#,
+            "[]",
+            "spans",
+        ),
+        (
+            r#""hold_samples":800"#,
+            r#""hold_samples":799"#,
+            "hold_samples",
+        ),
+        (r#""hold_ms":100"#, r#""hold_ms":50"#, "hold_samples"),
+        (
+            r#""hold_ms":100,"hold_samples":800"#,
+            r#""hold_ms":50,"hold_samples":400"#,
+            "span 0",
+        ),
+        (
+            r#""hold_ms":100,"hold_samples":800"#,
+            r#""hold_ms":501,"hold_samples":4008"#,
+            "9 refuses",
+        ),
+        (r#""rate":8000"#, r#""rate":8001"#, "rate"),
+        (r#""samples":16000"#, r#""samples":15999"#, "samples"),
+        (r#""ms":2000.000"#, r#""ms":2000.001"#, "ms"),
+        (r#""from_ms":12.500"#, r#""from_ms":12.501"#, "time"),
+        (r#""to_ms":148.125"#, r#""to_ms":148.124"#, "time"),
+        (r#""ratio":10"#, r#""ratio":100.5"#, "9 refuses"),
+        (r#""threshold_db":-40"#, r#""threshold_db":-41"#, "factor"),
+    ];
+    for (part, other, word) in wrong {
+        let said = with(part, other).expect_err(other);
+        assert!(said.contains(word), "{other}: {said}");
+    }
+}
+
+/// Two units in the last place are no matter. The Rust's own formula is some units off the header's, and twelve are too many.
+#[test]
+fn worked_numbers() {
+    for (name, text) in [
+        ("opening", "0.882496893"),
+        ("closing", "0.998750806"),
+        ("rising", "0.286504805"),
+        ("falling", "0.987577796"),
+    ] {
+        let bits = text.parse::<f32>().unwrap().to_bits();
+        let moved = |by: i32| format!("{}", f32::from_bits(bits.wrapping_add_signed(by)));
+        for by in [-2, 2] {
+            // What is aimed open is another matter, with another follower.
+            let said = with(text, &moved(by));
+            assert!(!said.is_err_and(|said| said.contains(name)), "{name} {by}");
+        }
+        for by in [-12, 12] {
+            let said = with(text, &moved(by)).unwrap_err();
+            assert!(said.contains(name), "{name} {by}: {said}");
+        }
+    }
+}
+
+#[test]
+fn no_json() {
+    for (part, other) in [
+        (r#""file":"click.wav","#, ""),
+        (r#""file":"click.wav""#, r#""file":7"#),
+        (
+            r#""rate":8000,"samples":16000"#,
+            r#""samples":16000,"rate":8000"#,
+        ),
+        (r#""eq":[],"#, ""),
+        (r#""open":1085"#, r#""open":1085,"more":1"#),
+        (r#""open":1085"#, r#""open":"1085""#),
+        (r#""open":1085"#, r#""open":nan"#),
+        (r#""open":1085"#, r#""open":-1"#),
+        (r#""rising":0.286504805"#, r#""rising":inf"#),
+        (r#""ratio":10,"#, "\"ratio\":10,\n"),
+    ] {
+        assert!(with(part, other).is_err(), "{other}");
+    }
+}
+
+#[test]
+fn refused_recordings() {
+    let cut = &click()[..3_000];
+    assert_eq!(
+        judged(cut, &json(), None),
+        Err("the recording is refused by 11".into())
+    );
+    assert!(spans(&file(7_999, &[0]), [-40.0, 10.0, 1.0, 100.0, 100.0]).is_err());
+    assert!(spans(&click(), [-81.0, 10.0, 1.0, 100.0, 100.0]).is_err());
+}
+
+/// The click alone comes out of two seconds of silence.
+fn gated(n: i16) -> Vec<u8> {
+    let mut samples = [0; 16_000];
+    samples[100] = n;
+    file(8_000, &samples)
+}
+
+/// At the click the state is 1 - 0.8825, the gain 0.9 * 0.1175 + 0.1 = 0.20575, and 0.20575 / 2 * 32767 = 3370.95.
+#[test]
+fn a_written_file() {
+    let right = gated(3_371);
+    let said = |gated: &[u8]| judged(&click(), &json(), Some(gated));
+    assert!(said(&right).is_ok());
+    assert_eq!(
+        super::gated(&click(), [-40.0, 10.0, 1.0, 100.0, 100.0]),
+        Ok(right.clone())
+    );
+    let sample = said(&gated(3_370)).unwrap_err();
+    assert!(
+        sample.contains("byte 244") && sample.contains("Some(100)"),
+        "{sample}"
+    );
+    assert!(said(&right[..right.len() - 1]).is_err());
+    assert!(said(&[&right[..], &[0]].concat()).is_err());
+    for at in 0..44 {
+        let mut other = right.clone();
+        other[at] ^= 1;
+        assert!(said(&other).is_err(), "byte {at}");
+    }
+}
+
+/// With ratio 1 every sample leaves the gate as it is: 1/2 is written as 16383.5, which is 16384.
+#[test]
+fn a_gate_that_passes_all() {
+    let json = json().replace(r#""ratio":10"#, r#""ratio":1"#);
+    assert!(judged(&click(), &json, Some(&gated(16_384))).is_ok());
+    assert!(judged(&click(), &json, Some(&gated(16_383))).is_err());
+}
+
+fn with_band(numbers: [f64; 5]) -> String {
+    let [b0, b1, b2, a1, a2] = numbers.map(|x| format!("{x:e}"));
+    let band = format!(r#"{{"band":15,"db":6,"b0":{b0},"b1":{b1},"b2":{b2},"a1":{a1},"a2":{a2}}}"#);
+    json().replace("\"eq\":[]", &format!("\"eq\":[{band}]"))
+}
+
+/// The highest band lies above half the rate: it takes 10^(6/20) = 1.99526 of each sample, and 3370.95 becomes 6725.93.
+#[test]
+fn an_equaliser_behind_it() {
+    let mut decibels = [0.0; 16];
+    decibels[15] = 6.0;
+    let rust = EqStage::new(decibels, 8_000.0).band(15);
+    let numbers = [rust.b0, rust.b1, rust.b2, rust.a1, rust.a2];
+    let json = with_band(numbers);
+    assert!(judged(&click(), &json, None).is_ok());
+    assert!(judged(&click(), &json, Some(&gated(6_726))).is_ok());
+    assert!(judged(&click(), &json, Some(&gated(3_371))).is_err());
+    for at in 0..5 {
+        let mut other = numbers;
+        other[at] += 1e-14;
+        assert!(judged(&click(), &with_band(other), None).is_err());
+    }
+    let other = json.replace(r#""band":15"#, r#""band":16"#);
+    assert!(judged(&click(), &other, None).is_err());
+}
+
+const RUN: &str = r#"{"threshold_db":-40,"factor":0.00999999978,"hold_ms":100,"hold_samples":800,"open":1085,"spans":1,"first":100,"end":1185}"#;
+const SILENT: &str = r#"{"threshold_db":0,"factor":1,"hold_ms":0,"hold_samples":0,"open":0,"spans":0,"first":null,"end":null}"#;
+
+#[test]
+fn several_runs() {
+    let with = |first: &str| {
+        let runs = format!(r#""eq":[],"runs":[{first},{SILENT}]"#);
+        judged(&click(), &json().replace(SPANS, &runs), None)
+    };
+    assert_eq!(
+        with(RUN),
+        Ok("16000 samples, 2 runs: as the Rust aims".into())
+    );
+    for (part, other) in [
+        (r#""open":1085"#, r#""open":1084"#),
+        (r#""spans":1"#, r#""spans":2"#),
+        (r#""first":100"#, r#""first":101"#),
+        (r#""end":1185"#, r#""end":1184"#),
+        (r#""first":100,"end":1185"#, r#""first":null,"end":null"#),
+        (r#""threshold_db":-40"#, r#""threshold_db":-20"#),
+        (r#""hold_samples":800"#, r#""hold_samples":801"#),
+        (
+            r#""hold_ms":100,"hold_samples":800"#,
+            r#""hold_ms":50,"hold_samples":400"#,
+        ),
+    ] {
+        assert_eq!(RUN.matches(part).count(), 1, "{part}");
+        assert!(with(&RUN.replace(part, other)).is_err(), "{other}");
+    }
+}
