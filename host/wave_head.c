@@ -84,14 +84,10 @@ static void by_hand(void)
 
 static void rates(void)
 {
-    static const uint32_t good[] = {8000,  8001,  11025, 16000, 22050,  32000,  32767,  32768,
-                                    44100, 48000, 65535, 65536, 131071, 131072, 191999, 192000};
-    static const uint32_t bad[] = {0,         1,         255,        7999,       192001,     196608,
-                                   0x1000000, 0x1001f40, 0x7fffffff, 0x80000000, 0x80005dc0, 0xffffffff};
-    for (unsigned i = 0; i < sizeof good / sizeof *good; i++)
-        done("a rate that is accepted", good[i], 6, 44);
-    for (unsigned i = 0; i < sizeof bad / sizeof *bad; i++)
-        refused(5, "a rate that is refused", bad[i], 6, 44);
+    for (int i = 0; i < RATES_WRITTEN; i++)
+        done("a rate that is accepted", rates_written[i], 6, 44);
+    for (int i = 0; i < RATES_REFUSED; i++)
+        refused(5, "a rate that is refused", rates_refused[i], 6, 44);
 }
 
 static void small_sizes(void)

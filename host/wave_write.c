@@ -9,6 +9,12 @@
 
 enum { LONGEST_SAMPLES = MOST_RECORDED + 4, LONGEST_ROOM = MOST_RECORDED + 200, BESIDE = 256 };
 
+const uint32_t rates_written[RATES_WRITTEN] = {8000,  8001,  11025, 16000, 22050,  32000,  32767,  32768,
+                                               44100, 48000, 65535, 65536, 131071, 131072, 191999, 192000};
+const uint32_t rates_refused[RATES_REFUSED] = {
+    0,         1,         255,        7999,       192001,     196608,
+    0x1000000, 0x1001f40, 0x7fffffff, 0x80000000, 0x80005dc0, 0xffffffff};
+
 static uint8_t any[LONGEST_SAMPLES];
 static uint8_t left[LONGEST_ROOM + BESIDE];
 
@@ -128,14 +134,10 @@ static void refused(uint32_t number, const char *name, uint32_t rate, size_t byt
 
 static void rates(void)
 {
-    static const uint32_t good[] = {8000,  8001,  11025, 16000, 22050,  32000,  32767,  32768,
-                                    44100, 48000, 65535, 65536, 131071, 131072, 191999, 192000};
-    static const uint32_t bad[] = {0,         1,         255,        7999,       192001,     196608,
-                                   0x1000000, 0x1001f40, 0x7fffffff, 0x80000000, 0x80005dc0, 0xffffffff};
-    for (unsigned i = 0; i < sizeof good / sizeof *good; i++)
-        done("a rate that is accepted", good[i], 6, 50);
-    for (unsigned i = 0; i < sizeof bad / sizeof *bad; i++)
-        refused(5, "a rate that is refused", bad[i], 6, 50);
+    for (int i = 0; i < RATES_WRITTEN; i++)
+        done("a rate that is accepted", rates_written[i], 6, 50);
+    for (int i = 0; i < RATES_REFUSED; i++)
+        refused(5, "a rate that is refused", rates_refused[i], 6, 50);
 }
 
 /* Every length up to some hundreds in room that it fills; ten bytes in every room up to what they take, and

@@ -18,8 +18,8 @@ pub fn named(name: &str) -> Option<&'static dyn Replay> {
         "leveller" => Some(&LevellerStage::NEW),
         "program" => Some(&Program),
         "wave" => Some(&Wave),
-        "wave_write" => Some(&WaveWrite),
-        "wave_head" => Some(&WaveHead),
+        "wave_write" => Some(&WaveWrite::NEW),
+        "wave_head" => Some(&WaveHead::NEW),
         _ => None,
     }
 }

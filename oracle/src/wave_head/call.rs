@@ -1,8 +1,15 @@
 //! A call for a head as bytes of a list, what it hands over, and its answer's bytes.
-use super::rules::{Asked, write_head};
-use crate::wave_write::{
-    call::{count, filled, tile, word},
-    rules::Written,
+use super::{
+    cases, drawn,
+    rules::{Asked, refusals, write_head},
+};
+use crate::{
+    random::Random,
+    wave_write::{
+        call::{count, filled, tile, word},
+        rules::Written,
+        writing::Writes,
+    },
 };
 
 #[derive(Clone, Debug)]
@@ -23,30 +30,6 @@ pub const LONGEST: usize = 65_536;
 const ANSWER: usize = 8;
 
 impl Call {
-    pub fn bytes(&self) -> Vec<u8> {
-        let mut bytes = self.rate.to_le_bytes().to_vec();
-        bytes.extend(self.samples.to_le_bytes());
-        bytes.extend((self.room as u32).to_le_bytes());
-        bytes.extend((self.before.len() as u32).to_le_bytes());
-        bytes.extend(&self.before);
-        bytes
-    }
-
-    /// The first call of a list, and what stands behind it.
-    fn taken(list: &[u8]) -> Option<(Self, &[u8])> {
-        let (rate, list) = word(list)?;
-        let (samples, list) = list.split_first_chunk::<8>()?;
-        let (room, list) = count(list, LONGEST)?;
-        let (before, list) = tile(list)?;
-        let call = Self {
-            rate,
-            samples: u64::from_le_bytes(*samples),
-            room,
-            before,
-        };
-        Some((call, list))
-    }
-
     pub const fn asked(&self) -> Asked {
         Asked {
             rate: self.rate,
@@ -63,8 +46,45 @@ impl Call {
     pub fn written(&self) -> (Written, Vec<u8>) {
         write_head(self.rate, self.samples, &self.given_output())
     }
+}
 
-    pub fn answer(&self) -> Vec<u8> {
+impl Writes for Call {
+    fn stored() -> Vec<u8> {
+        cases::stored()
+    }
+
+    fn drawn(random: &mut Random) -> Self {
+        drawn::call(random)
+    }
+
+    fn taken(list: &[u8]) -> Option<(Self, &[u8])> {
+        let (rate, list) = word(list)?;
+        let (samples, list) = list.split_first_chunk::<8>()?;
+        let (room, list) = count(list, LONGEST)?;
+        let (before, list) = tile(list)?;
+        let call = Self {
+            rate,
+            samples: u64::from_le_bytes(*samples),
+            room,
+            before,
+        };
+        Some((call, list))
+    }
+
+    fn bytes(&self) -> Vec<u8> {
+        let mut bytes = self.rate.to_le_bytes().to_vec();
+        bytes.extend(self.samples.to_le_bytes());
+        bytes.extend((self.room as u32).to_le_bytes());
+        bytes.extend((self.before.len() as u32).to_le_bytes());
+        bytes.extend(&self.before);
+        bytes
+    }
+
+    fn number(&self) -> u32 {
+        refusals(self.asked()).next().unwrap_or(0)
+    }
+
+    fn answer(&self) -> Vec<u8> {
         let (written, output) = self.written();
         let mut bytes = written.number.to_le_bytes().to_vec();
         bytes.extend(written.length.to_le_bytes());
@@ -72,24 +92,26 @@ impl Call {
         bytes
     }
 
-    pub const fn answer_length(&self) -> usize {
+    fn answer_length(&self) -> usize {
         ANSWER + self.room
     }
-}
 
-/// The calls of a list; what is left behind the last one that a replay takes is none.
-pub fn calls(list: &[u8]) -> impl Iterator<Item = Call> {
-    let mut rest = list;
-    std::iter::from_fn(move || {
-        let (call, behind) = Call::taken(rest)?;
-        rest = behind;
-        Some(call)
-    })
+    fn in_words(&self) -> String {
+        format!(
+            "a head for {} bytes of samples at {} Hz into room of {}: {:?}\nover {:02x?}",
+            self.samples,
+            self.rate,
+            self.room,
+            self.written().0,
+            self.before
+        )
+    }
 }
 
 #[cfg(test)]
 mod tests {
     use super::*;
+    use crate::wave_write::writing::calls;
 
     /// Two bytes of samples, room of 45 with a tile of two; and 2^32 bytes, room of 3 with an empty tile.
     const LIST: &[u8] = b"\x40\x1f\0\0\x02\0\0\0\0\0\0\0\x2d\0\0\0\x02\0\0\0XY\
@@ -124,10 +146,10 @@ mod tests {
     #[test]
     fn where_a_list_ends() {
         for length in 0..22 {
-            assert_eq!(calls(&LIST[..length]).count(), 0);
+            assert_eq!(calls::<Call>(&LIST[..length]).count(), 0);
         }
         for length in 22..LIST.len() {
-            assert_eq!(calls(&LIST[..length]).count(), 1);
+            assert_eq!(calls::<Call>(&LIST[..length]).count(), 1);
         }
         let ended = |room: u32, tile: u32| {
             let mut list = [LIST, &[0; 12]].concat();
@@ -135,7 +157,7 @@ mod tests {
             list.extend(tile.to_le_bytes());
             list.extend(vec![1; tile as usize]);
             list.extend(LIST);
-            calls(&list).count()
+            calls::<Call>(&list).count()
         };
         assert_eq!(ended(65_536, 65_536), 5);
         assert_eq!(ended(65_537, 0), 2);

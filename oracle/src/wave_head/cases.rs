@@ -14,6 +14,7 @@ use crate::{
         before,
         made::ORDER,
         rules::{OVER, ROOM},
+        writing::Writes,
     },
 };
 
@@ -113,10 +114,8 @@ fn over_tiles() -> Vec<Call> {
 
 #[cfg(test)]
 mod tests {
-    use super::{
-        super::{call::calls, rules},
-        *,
-    };
+    use super::{super::rules, *};
+    use crate::wave_write::writing::calls;
     use std::collections::BTreeMap;
 
     /// Said where it is run with --nocapture.
@@ -140,7 +139,7 @@ mod tests {
         println!("{answers:?}, {bytes} bytes");
         assert!(answers.keys().eq(&[0, 5, 14, 15, 17]));
         assert!(answers.values().all(|&count| count >= 100));
-        assert_eq!(calls(&stored()).count(), answers.values().sum());
+        assert_eq!(calls::<Call>(&stored()).count(), answers.values().sum());
         assert!(bytes < 600_000, "{bytes}");
     }
 
@@ -148,7 +147,7 @@ mod tests {
     #[test]
     fn every_set_of_refusals_is_there() {
         let mut counts = BTreeMap::<Vec<u32>, usize>::new();
-        for call in calls(&stored()) {
+        for call in calls::<Call>(&stored()) {
             let set = rules::refusals(call.asked()).collect();
             *counts.entry(set).or_default() += 1;
         }

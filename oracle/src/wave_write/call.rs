@@ -1,6 +1,13 @@
 //! A call on the writer as bytes of a list, what it hands over, and its answer's bytes.
-use super::rules::{Asked, Written, write};
-use crate::wave::{self, rules::read};
+use super::{
+    cases, drawn,
+    rules::{Asked, Written, refusals, write},
+    writing::Writes,
+};
+use crate::{
+    random::Random,
+    wave::{self, rules::read},
+};
 
 /// Samples and output are named by tiles, so that a long file is a short call.
 #[derive(Clone, Debug)]
@@ -27,35 +34,6 @@ const SHOWN: usize = 256;
 const ANSWER: usize = 40;
 
 impl Call {
-    pub fn bytes(&self) -> Vec<u8> {
-        let mut bytes = Vec::new();
-        for number in [self.rate, self.length as u32, self.room as u32] {
-            bytes.extend(number.to_le_bytes());
-        }
-        for tile in [&self.samples, &self.before] {
-            bytes.extend((tile.len() as u32).to_le_bytes());
-            bytes.extend(tile);
-        }
-        bytes
-    }
-
-    /// The first call of a list, and what stands behind it.
-    fn taken(list: &[u8]) -> Option<(Self, &[u8])> {
-        let (rate, list) = word(list)?;
-        let (length, list) = count(list, LONGEST)?;
-        let (room, list) = count(list, LONGEST)?;
-        let (samples, list) = tile(list)?;
-        let (before, list) = tile(list)?;
-        let call = Self {
-            rate,
-            length,
-            room,
-            samples,
-            before,
-        };
-        Some((call, list))
-    }
-
     pub const fn asked(&self) -> Asked {
         Asked {
             rate: self.rate,
@@ -76,9 +54,51 @@ impl Call {
     pub fn written(&self) -> (Written, Vec<u8>) {
         write(self.rate, &self.given_samples(), &self.given_output())
     }
+}
+
+impl Writes for Call {
+    fn stored() -> Vec<u8> {
+        cases::stored()
+    }
+
+    fn drawn(random: &mut Random) -> Self {
+        drawn::call(random)
+    }
+
+    fn taken(list: &[u8]) -> Option<(Self, &[u8])> {
+        let (rate, list) = word(list)?;
+        let (length, list) = count(list, LONGEST)?;
+        let (room, list) = count(list, LONGEST)?;
+        let (samples, list) = tile(list)?;
+        let (before, list) = tile(list)?;
+        let call = Self {
+            rate,
+            length,
+            room,
+            samples,
+            before,
+        };
+        Some((call, list))
+    }
+
+    fn bytes(&self) -> Vec<u8> {
+        let mut bytes = Vec::new();
+        for number in [self.rate, self.length as u32, self.room as u32] {
+            bytes.extend(number.to_le_bytes());
+        }
+        for tile in [&self.samples, &self.before] {
+            bytes.extend((tile.len() as u32).to_le_bytes());
+            bytes.extend(tile);
+        }
+        bytes
+    }
+
+    fn number(&self) -> u32 {
+        refusals(self.asked()).next().unwrap_or(0)
+    }
 
     /// The writing, the output's first bytes and its digest, and what a reading tells of it.
-    pub fn answer(&self) -> Vec<u8> {
+    fn answer(&self) -> Vec<u8> {
         let (written, output) = self.written();
         let mut bytes = written.number.to_le_bytes().to_vec();
         bytes.extend(written.length.to_le_bytes());
@@ -88,19 +108,21 @@ impl Call {
         bytes
     }
 
-    pub fn answer_length(&self) -> usize {
+    fn answer_length(&self) -> usize {
         ANSWER + self.room.min(SHOWN)
     }
-}
 
-/// The calls of a list; what is left behind the last one that a replay takes is none.
-pub fn calls(list: &[u8]) -> impl Iterator<Item = Call> {
-    let mut rest = list;
-    std::iter::from_fn(move || {
-        let (call, behind) = Call::taken(rest)?;
-        rest = behind;
-        Some(call)
-    })
+    fn in_words(&self) -> String {
+        format!(
+            "{} bytes of samples at {} Hz into room of {}: {:?}\nsamples of {:02x?}\nover {:02x?}",
+            self.length,
+            self.rate,
+            self.room,
+            self.written().0,
+            self.samples,
+            self.before
+        )
+    }
 }
 
 pub fn word(list: &[u8]) -> Option<(u32, &[u8])> {
@@ -141,6 +163,7 @@ fn digest(bytes: &[u8]) -> u64 {
 #[cfg(test)]
 mod tests {
     use super::*;
+    use crate::wave_write::writing::calls;
 
     /// Two bytes of a tile of three, room of 47 with a tile of two; and one byte of an empty tile, room of 3.
     const LIST: &[u8] = b"\x40\x1f\0\0\x02\0\0\0\x2f\0\0\0\x03\0\0\0abc\x02\0\0\0XY\
@@ -222,10 +245,10 @@ mod tests {
     #[test]
     fn where_a_list_ends() {
         for length in 0..25 {
-            assert_eq!(calls(&LIST[..length]).count(), 0);
+            assert_eq!(calls::<Call>(&LIST[..length]).count(), 0);
         }
         for length in 25..LIST.len() {
-            assert_eq!(calls(&LIST[..length]).count(), 1);
+            assert_eq!(calls::<Call>(&LIST[..length]).count(), 1);
         }
         let ended = |rate: u32, length: u32, room: u32, tile: u32| {
             let mut list = LIST.to_vec();
@@ -235,7 +258,7 @@ mod tests {
             list.extend(vec![1; tile as usize]);
             list.extend([0; 4]);
             list.extend(LIST);
-            calls(&list).count()
+            calls::<Call>(&list).count()
         };
         assert_eq!(ended(0, 2_097_152, 2_097_152, 65_536), 5);
         assert_eq!(ended(0, 2_097_153, 0, 0), 2);

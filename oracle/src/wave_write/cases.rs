@@ -7,6 +7,7 @@ use super::{
     made::Made,
     numbers, refusals,
     rules::HEAD,
+    writing::Writes,
 };
 use crate::{
     random::Random,
@@ -183,7 +184,7 @@ fn recordings() -> Vec<Call> {
 #[cfg(test)]
 mod tests {
     use super::{
-        super::{call::calls, made::ORDER, rules},
+        super::{made::ORDER, rules, writing::calls},
         *,
     };
     use std::collections::BTreeMap;
@@ -217,7 +218,7 @@ mod tests {
         println!("{answers:?}, {bytes} bytes");
         assert!(answers.keys().eq(&[0, 5, 14, 15, 17]));
         assert!(answers.values().all(|&count| count >= 40));
-        assert_eq!(calls(&stored()).count(), answers.values().sum());
+        assert_eq!(calls::<Call>(&stored()).count(), answers.values().sum());
         assert!(bytes < 600_000, "{bytes}");
     }
 
@@ -225,7 +226,7 @@ mod tests {
     #[test]
     fn earlier_files_are_there() {
         let mut counts = [0; 3];
-        for call in calls(&stored()) {
+        for call in calls::<Call>(&stored()) {
             let done = rules::refusals(call.asked()).next().is_none();
             let earlier = read(&call.given_output()).number == 0;
             counts[0] += usize::from(done && call.room > HEAD + call.length);
