@@ -238,6 +238,19 @@ static void by_hand(void)
     check("gate_record", a.gate.registers.counter, 2, 0, 0, 0);
 }
 
+/* A counter that a host put in: open for one sample less, and none of them is loud. */
+static void counter_put_in(void)
+{
+    static const float silence[] = {0, 0, 0};
+    static const uint8_t aims[] = {1, 0, 0};
+    uint8_t given[COUNT(aims)];
+    hoofglaze_gate g = made(8000, 0, 0);
+    g.registers.counter = 2;
+    hoofglaze_gate_answered a = hoofglaze_gate_record(g, silence, 3, output, 3, given, 3);
+    check_answer("gate_record", a.answer, 0, 0, 1, 0);
+    check_bytes("gate_record", given, aims, sizeof aims, 0);
+}
+
 /* A signal cut anywhere, with a plain block between two records. */
 static void cut_records(void)
 {
@@ -269,5 +282,6 @@ void record_checks(void)
     refused_beyond_32_bits();
     done_records();
     by_hand();
+    counter_put_in();
     cut_records();
 }

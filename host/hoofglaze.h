@@ -247,8 +247,9 @@ hoofglaze_gate_answered hoofglaze_gate_block(hoofglaze_gate g, const float *inpu
 /* The same block, with a record of where the gate aims: a byte for each sample, 1 open, 0 closed. The record
  * must be as long as the input too: 9, 7, 8, 6. All else is as above: state, answer and outputs are those of
  * hoofglaze_gate_block, the record's bytes add up to the count, and a refusal leaves the record as it was.
- * A byte is 1 exactly if some sample since making or the last reset was loud and the latest such is this one
- * or fewer than H back, H being the hold in samples in force at that loud one. */
+ * Of a gate that was made, and that these calls alone have changed, a byte is 1 exactly if some sample since
+ * making or the last reset was loud and the latest such is this one or fewer than H back, H being the hold in
+ * samples in force at that loud one. (A counter that a host puts in holds a gate open with no loud sample.) */
 hoofglaze_gate_answered hoofglaze_gate_record(hoofglaze_gate g, const float *input, size_t samples,
                                               float *output, size_t places, uint8_t *aims, size_t bytes);
 
