@@ -58,7 +58,7 @@ hoofglaze_gate made(float rate, float rising, float falling)
 
 /* ---- making: 5, 4 */
 
-#define MADE_HOLD 0x42480000u /* 50 ms */
+#define MADE_HOLD 0x42c80000u /* 100 ms */
 
 static void check_make(uint32_t rate, uint32_t rising, uint32_t falling, uint32_t number)
 {

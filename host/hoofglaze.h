@@ -14,7 +14,7 @@
 #include <stdint.h>
 
 /* Grows by one with each release that a host can tell from the one before; docs/RELEASES.md says how. */
-#define HOOFGLAZE_VERSION 5
+#define HOOFGLAZE_VERSION 6
 
 #ifdef __cplusplus
 extern "C" {
@@ -213,7 +213,7 @@ typedef struct {
     hoofglaze_answer answer;
 } hoofglaze_gate_answered;
 
-/* A gate at rest: threshold 0 dB, factor 1; ratio 10; attack 1 ms; release 100 ms; hold 50 ms; attack's
+/* A gate at rest: threshold 0 dB, factor 1; ratio 10; attack 1 ms; release 100 ms; hold 100 ms; attack's
  * and release's smoothing numbers 0; level, state and counter 0. Refused by 5, then 4, with a gate whose
  * numbers are all 0, the rate too, which 9 refuses ever after. */
 hoofglaze_gate_answered hoofglaze_gate_make(float rate, float rising, float falling);

@@ -15,6 +15,7 @@ void write_checks(void);
 void root_checks(void);
 void leveller_checks(void);
 void record_checks(void);
+void hold_checks(void);
 void head_checks(void);
 void layout_checks(void);
 void padding_checks(void);
@@ -37,6 +38,7 @@ int main(int count, char **words)
     root_checks();
     leveller_checks();
     record_checks();
+    hold_checks();
     head_checks();
     layout_checks();
     padding_checks();

@@ -4,7 +4,7 @@ use Prim.Native.Nat.{ℕ}
 
 -- the hold of a made gate, in ms
 abbrev pub madeHold : ℕ
-madeHold = 50
+madeHold = 100
 
 -- the longest hold in samples: the counter's bound
 abbrev pub longestCount : ℕ

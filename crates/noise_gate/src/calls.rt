@@ -26,7 +26,7 @@ ghost use Rattle.noise_gate.specs.Answers.{toldBlock};
 ghost use Rattle.noise_gate.specs.Calls as Calls;
 
 // The hold of a made gate, in milliseconds.
-const MADE_HOLD: f32 = 50.0;
+const MADE_HOLD: f32 = 100.0;
 
 const AT_REST: Registers = Registers {
     level: 0.0,

@@ -15,8 +15,12 @@ use crate::{
 /// How many samples of done blocks the stored list has, at least.
 const STORED: u64 = 300_000;
 
-/// The stored list: every refusal, every length, the borders; a made gate as it is; then sessions; a
-/// call of each number that no call has; the same again of blocks with a record; and one that ends too soon.
+/// The hold that a made gate had when most of the stored list was made, in milliseconds.
+pub(super) const FORMER_HOLD: f32 = 50.0;
+
+/// The stored list: every refusal, every length, the borders; a made gate with nothing set but its hold; then
+/// sessions; a call of each number that no call has; the same again of blocks with a record; how long a made gate
+/// holds, and a kept one; and a call that ends too soon.
 pub fn stored() -> Vec<u8> {
     let mut random = Random::new(4);
     let mut list = List::<Gate>::new(&mut random);
@@ -33,6 +37,8 @@ pub fn stored() -> Vec<u8> {
     list.bytes.extend([0; 64]);
     list.bytes.extend([3; 64]);
     list.records();
+    list.holds();
+    list.ends_too_soon();
     list.bytes
 }
 
@@ -103,21 +109,33 @@ impl List<'_, Gate> {
         }
     }
 
+    /// A gate made, with the former hold set. For that setting nothing is drawn, so that the calls behind it stay the
+    /// ones that they were, and their answers too.
+    fn made_as_formerly(&mut self, gate: &Gate) {
+        self.add(call::make(gate.rate, gate.rising, gate.falling));
+        let hold = call::typed(Setting::Hold(FORMER_HOLD));
+        self.bytes.extend(call::bytes(&hold, false));
+    }
+
     /// A gate made, and its five settings set.
     pub(super) fn made(&mut self, gate: &Gate) {
-        self.add(call::make(gate.rate, gate.rising, gate.falling));
+        self.made_as_formerly(gate);
         self.set_all(gate);
     }
 
-    fn read_all(&mut self) {
+    pub(super) fn read_all(&mut self) {
         for name in NAMES {
             self.add(Call::Read(name.into()));
         }
     }
 
-    /// A made gate with nothing set: what it reads, and how long it holds.
+    /// A made gate with nothing set but the former hold: what it reads, and how long it holds.
     fn on_the_made_state(&mut self) {
-        self.add(call::make(8_000.0, 0.0, 0.0));
+        self.made_as_formerly(&Gate {
+            rising: 0.0,
+            falling: 0.0,
+            ..QUICK
+        });
         self.read_all();
         let mut samples = vec![0.0; 600];
         samples[20..30].fill(1.5);
@@ -257,5 +275,10 @@ impl List<'_, Gate> {
             ..QUICK
         }));
         self.drawn(&QUICK, 200);
+    }
+
+    fn ends_too_soon(&mut self) {
+        let torn = call::bytes(&Call::Record(vec![0.5; 2], 2, 2), false);
+        self.bytes.extend(&torn[..torn.len() - 1]);
     }
 }

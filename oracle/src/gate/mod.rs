@@ -3,6 +3,7 @@
 //! with a record of the aims.
 mod call;
 mod cases;
+mod holds;
 #[cfg(test)]
 mod needs;
 mod numbers;

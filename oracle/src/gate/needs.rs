@@ -1,8 +1,9 @@
-//! What the stored list must have of blocks with a record, counted; and a record by hand.
+//! What the stored list must have of blocks with a record, counted; a record by hand; and how long gates hold in it.
 use super::{NoiseGate, call, cases, rules::Gate};
 use crate::{
-    calls::{Call, Rules, number::Taker},
+    calls::{Call, List, Rules, number::Taker},
     limits::{LONGEST_BLOCK, is_refused},
+    random::Random,
     replay::Replay,
 };
 use std::collections::BTreeMap;
@@ -183,4 +184,60 @@ fn a_record_by_hand() {
     assert_eq!(refused[84..93], *b"\0\0\x7a\xc4\0\0\x7a\xc4\xa5");
     let last = &refused[93..];
     assert_eq!(last[84 + 12..], [1, 0, 0]);
+}
+
+/// Each call of `holds` with its answer.
+fn held() -> Vec<(Call, Vec<u8>)> {
+    let mut random = Random::new(1);
+    let mut list = List::<Gate>::new(&mut random);
+    list.holds();
+    let answers = NoiseGate::NEW.answers(&list.bytes).unwrap();
+    let mut rest = &answers[..];
+    let answered = call::list(&list.bytes).map(|(call, _)| {
+        let behind = match &call {
+            Call::Block(_, places) => 4 * places,
+            Call::Record(_, places, aims) => 4 * places + aims,
+            _ => 0,
+        };
+        let (answer, others) = rest.split_at(84 + behind);
+        rest = others;
+        (call, answer.to_vec())
+    });
+    answered.collect()
+}
+
+/// By hand: 100 ms and 50 ms in samples, of gates made and kept, each by records and by blocks; what is left of a kept
+/// counter of 300; and of each other rate the loud sample alone, whose answer tells the counter.
+#[test]
+fn a_made_gate_holds_100_ms_and_a_kept_one_50() {
+    let (mut open, mut stretches, mut counters) = (0, Vec::new(), Vec::new());
+    for (call, answer) in held() {
+        let [count, counter] = [16, 76].map(|at| Taker(&answer[at..]).long());
+        if count == 0 && open > 0 {
+            stretches.push(open);
+            open = 0;
+        }
+        open += count;
+        if matches!(&call, Call::Block(samples, _) if samples[..] == [0.5]) {
+            counters.push(counter);
+        }
+    }
+    assert_eq!(
+        stretches,
+        [
+            4_800, 4_800, 800, 800, 1, 1, 1, 1, 1, 299, 2_400, 2_400, 299, 400, 400
+        ]
+    );
+    assert_eq!(counters, [1_102, 2_205, 4_410, 9_600, 19_200]);
+}
+
+/// What is read of the hold, and the hold of the state that is told, of gates made and kept.
+#[test]
+fn a_made_hold_is_read() {
+    let read: Vec<_> = held()
+        .into_iter()
+        .filter(|(call, _)| matches!(call, Call::Read(name) if name == b"hold"))
+        .map(|(_, answer)| [4, 56].map(|at| Taker(&answer[at..]).single()))
+        .collect();
+    assert_eq!(read, [[100.0; 2], [100.0; 2], [50.0; 2], [50.0; 2]]);
 }

@@ -35,8 +35,6 @@ impl List<'_, Gate> {
         self.records_at_the_borders();
         self.records_again();
         self.until(STORED, List::recorded_session);
-        let torn = call::bytes(&Call::Record(vec![0.5; 2], 2, 2), false);
-        self.bytes.extend(&torn[..torn.len() - 1]);
     }
 
     fn refused_record(&mut self, samples: Vec<f32>, places: usize, aims: usize) {

@@ -13,7 +13,7 @@ use crate::{
 };
 
 /// The hold of a made gate and the longest one, in milliseconds; the counter's bound.
-const MADE_HOLD: f32 = 50.0;
+const MADE_HOLD: f32 = 100.0;
 pub const LONGEST_HOLD: f32 = 500.0;
 pub const LONGEST_COUNT: u64 = 96_000;
 
