@@ -2,7 +2,7 @@
 -- Assumes nothing.
 use Prim.Native.Nat.{ℕ}
 
--- the hold of a made gate, in ms
+-- the hold of a made gate, in ms: document 02's W2, where document 01 has 50
 abbrev pub madeHold : ℕ
 madeHold = 100
 

@@ -12,8 +12,10 @@ use crate::{
     limits::{LARGEST_SAMPLE, is_rate, is_smoothing},
 };
 
-/// The hold of a made gate and the longest one, in milliseconds; the counter's bound.
+/// The hold of a made gate, in milliseconds: document 02's W2.
 const MADE_HOLD: f32 = 100.0;
+
+/// The longest hold, in milliseconds; the counter's bound.
 pub const LONGEST_HOLD: f32 = 500.0;
 pub const LONGEST_COUNT: u64 = 96_000;
 
