@@ -1,78 +1,20 @@
-/* calls WHOSE FUNCTION OPERANDS: calls one function many times, for an instruction counter.
- * calls agree: whether the library, its rendering and the C library give the same numbers. */
+/* calls WHOSE FUNCTION OPERANDS: calls one function many times, for an instruction counter. calls nanoseconds:
+ * how long a call takes, a line for each that offers a function and each row of its operands. calls agree:
+ * whether the library, its rendering, the C library and musl give the same numbers. */
+#include "clock.h"
+
 #include <math.h>
 #include <stdio.h>
 #include <string.h>
 
 #include "hoofglaze.h"
+#include "operands.h"
 #include "rendering.h"
+#ifdef MUSL
+#include "musl.h"
+#endif
 
-enum { PREPARED = 4096, ROUNDS = 8 };
-
-static float a32[PREPARED], b32[PREPARED], c32[PREPARED];
-static double a64[PREPARED], b64[PREPARED], c64[PREPARED];
-
-/* What a root is taken of: the sizes of a32, or subnormals alone in their row. */
-static float squares[PREPARED];
-
-/* ---- operands */
-
-static uint64_t drawn(void)
-{
-    static uint64_t state = 0x9e3779b97f4a7c15;
-    state ^= state << 13;
-    state ^= state >> 7;
-    state ^= state << 17;
-    return state * 0x2545f4914f6cdd1d;
-}
-
-/* A normal number from 2^from up to 2^(from + span), of either sign. */
-static double normal(int from, int span)
-{
-    uint64_t n = drawn() & 0x800fffffffffffff;
-    double x;
-    n += (uint64_t)(1023 + from + (int)(drawn() % span)) << 52;
-    memcpy(&x, &n, sizeof x);
-    return x;
-}
-
-static void put(int place, int i, float x, double y)
-{
-    float *const at32[] = {a32, b32, c32};
-    double *const at64[] = {a64, b64, c64};
-    at32[place][i] = x;
-    at64[place][i] = y;
-}
-
-enum row { RANDOM, SPREAD, C_ZERO, A_ZERO, ZEROS, SUBNORMAL, FAR, NOT_A_NUMBER, ROWS };
-
-static const char *const rows[ROWS] = {
-    "random", "spread", "c-zero", "a-zero", "zeros", "subnormal", "far", "nan",
-};
-
-static void prepare(enum row row)
-{
-    for (int i = 0; i < PREPARED; i++) {
-        for (int place = 0; place < 3; place++) {
-            double x = row == SPREAD ? normal(-16, 32) : normal(-4, 8);
-            put(place, i, (float)x, x);
-        }
-        if (row == A_ZERO || row == ZEROS)
-            put(0, i, 0, 0);
-        if (row == ZEROS)
-            put(1, i, 0, 0);
-        if (row == C_ZERO || row == ZEROS)
-            put(2, i, 0, 0);
-        if (row == SUBNORMAL)
-            put(i % 3, i, (float)normal(-140, 8), normal(-550, 8) * 0x1p-500);
-        if (row == FAR)
-            put(2, i, (float)normal(i % 2 ? 60 : -60, 8), normal(i % 2 ? 300 : -300, 8));
-        if (row == NOT_A_NUMBER)
-            put(i % 3, i, 0.0f / 0.0f, 0.0 / 0.0);
-    }
-    for (int i = 0; i < PREPARED; i++)
-        squares[i] = fabsf(row == SUBNORMAL ? (float)normal(-140, 8) : a32[i]);
-}
+enum { ROUNDS = 8, TURNS = 200 };
 
 /* ---- who offers the functions */
 
@@ -104,32 +46,78 @@ static const struct offer offers[] = {
      hoofglaze_truncated, hoofglaze_narrowed},
     {"rendering", rendered_fma32, rendered_fma64, rendered_root32, rendered_size32, rendered_size64,
      rendered_truncated, rendered_narrowed},
-    {"libm", fmaf, fma, sqrtf, fabsf, fabs, 0, 0},
+    {"libm", fmaf, fma, sqrtf, 0, 0, 0, 0},
+#ifdef MUSL
+    {"musl", musl_fmaf, musl_fma, 0, 0, 0, 0, 0},
+#endif
 };
 
-#define CALLS(CALL)                              \
-    for (int round = 0; round < ROUNDS; round++) \
-        for (int i = 0; i < PREPARED; i++)       \
-            CALL
+enum { OFFERS = sizeof offers / sizeof *offers };
 
-static int call(const struct offer *o, const char *function)
+static const struct offer *const library = &offers[1];
+
+/* ---- calls */
+
+enum function { FMA32, FMA64, ROOT32, SIZE32, SIZE64, TRUNCATED, NARROWED, FUNCTIONS };
+
+static const char *const functions[FUNCTIONS] = {
+    "fma32", "fma64", "root32", "size32", "size64", "truncated", "narrowed",
+};
+
+#define CALLS(FUNCTION, ...)                                    \
+    for (int round = 0; o->FUNCTION && round < rounds; round++) \
+        for (int i = 0; i < PREPARED; i++)                      \
+            o->FUNCTION(__VA_ARGS__);                           \
+    return o->FUNCTION != 0
+
+/* Whether the function is offered, and so was called. */
+static int call(const struct offer *o, enum function function, int rounds)
 {
-    if (strcmp(function, "fma32") == 0)
-        CALLS(o->fma32(a32[i], b32[i], c32[i]));
-    else if (strcmp(function, "fma64") == 0)
-        CALLS(o->fma64(a64[i], b64[i], c64[i]));
-    else if (strcmp(function, "root32") == 0)
-        CALLS(o->root32(squares[i]));
-    else if (strcmp(function, "size32") == 0)
-        CALLS(o->size32(a32[i]));
-    else if (strcmp(function, "size64") == 0)
-        CALLS(o->size64(a64[i]));
-    else if (strcmp(function, "truncated") == 0 && o->truncated)
-        CALLS(o->truncated(a32[i]));
-    else if (strcmp(function, "narrowed") == 0 && o->narrowed)
-        CALLS(o->narrowed(a64[i]));
-    else
-        return 2;
+    switch (function) {
+    case FMA32:
+        CALLS(fma32, a32[i], b32[i], c32[i]);
+    case FMA64:
+        CALLS(fma64, a64[i], b64[i], c64[i]);
+    case ROOT32:
+        CALLS(root32, squares[i]);
+    case SIZE32:
+        CALLS(size32, a32[i]);
+    case SIZE64:
+        CALLS(size64, a64[i]);
+    case TRUNCATED:
+        CALLS(truncated, a32[i]);
+    case NARROWED:
+        CALLS(narrowed, a64[i]);
+    default:
+        return 0;
+    }
+}
+
+/* ---- nanoseconds, with the loop around the call: the quickest of some turns, which all but the one that does
+ * nothing take by rotation, and of which the first only warms up */
+
+static void time_row(enum function function, enum row row)
+{
+    double least[OFFERS] = {0};
+    prepare(row);
+    for (int turn = 0; turn <= TURNS; turn++)
+        for (int i = 1; i < OFFERS; i++) {
+            double began = now();
+            int offered = call(&offers[i], function, 1);
+            double took = offered ? (now() - began) / PREPARED : 0;
+            least[i] = turn <= 1 || took < least[i] ? took : least[i];
+        }
+    for (int i = 1; i < OFFERS; i++)
+        if (least[i] > 0)
+            printf("%s %s %s %.2f\n", offers[i].whose, functions[function], rows[row], least[i]);
+}
+
+static int nanoseconds(void)
+{
+    for (enum function function = FMA32; function < FUNCTIONS; function++)
+        for (enum row row = RANDOM; row < ROWS; row++)
+            if (function <= FMA64 || row == RANDOM || (function == ROOT32 && (row == SPREAD || row == SUBNORMAL)))
+                time_row(function, row);
     return 0;
 }
 
@@ -140,40 +128,63 @@ static int same(double x, double y)
     return memcmp(&x, &y, sizeof x) == 0 || (x != x && y != y);
 }
 
-static int agree_at(int i)
+/* Whether someone gives the library's numbers, where they offer the function. */
+#define AGREES(FUNCTION, ...) (!o->FUNCTION || same(library->FUNCTION(__VA_ARGS__), o->FUNCTION(__VA_ARGS__)))
+
+static int agrees(const struct offer *o, int i)
 {
-    const struct offer *h = &offers[1], *r = &offers[2], *l = &offers[3];
-    float a = a32[i], b = b32[i], c = c32[i], sum32 = h->fma32(a, b, c);
-    float square = squares[i], root = h->root32(square);
-    double x = a64[i], y = b64[i], z = c64[i], sum64 = h->fma64(x, y, z);
-    return same(sum32, r->fma32(a, b, c)) && same(sum32, l->fma32(a, b, c)) &&
-           same(sum64, r->fma64(x, y, z)) && same(sum64, l->fma64(x, y, z)) &&
-           same(root, r->root32(square)) && same(root, l->root32(square)) &&
-           same(h->size32(a), r->size32(a)) && same(h->size64(x), r->size64(x)) &&
-           h->truncated(a) == r->truncated(a) && same(h->narrowed(x), r->narrowed(x));
+    return AGREES(fma32, a32[i], b32[i], c32[i]) && AGREES(fma64, a64[i], b64[i], c64[i]) &&
+           AGREES(root32, squares[i]) && AGREES(size32, a32[i]) && AGREES(size64, a64[i]) &&
+           (!o->truncated || library->truncated(a32[i]) == o->truncated(a32[i])) && AGREES(narrowed, a64[i]);
 }
 
 static int agree(void)
 {
-    int apart = 0;
+    int differ = 0;
     for (enum row row = RANDOM; row < ROWS; row++) {
         prepare(row);
-        for (int i = 0; i < PREPARED; i++)
-            apart += !agree_at(i);
+        for (const struct offer *o = library + 1; o < offers + OFFERS; o++) {
+            int apart = 0;
+            for (int i = 0; i < PREPARED; i++)
+                apart += !agrees(o, i);
+            if (apart)
+                printf("%s, %s: %d differ\n", o->whose, rows[row], apart);
+            differ += apart;
+        }
     }
-    printf("calls: %d operands on which the functions differ\n", apart);
-    return apart != 0;
+    printf("calls: %d operands on which the functions differ\n", differ);
+    return differ != 0;
+}
+
+/* ---- words */
+
+/* How many there are where none is it. */
+static int found(const char *word, const char *const *words, int count)
+{
+    int i = 0;
+    while (i < count && strcmp(word, words[i]) != 0)
+        i++;
+    return i;
+}
+
+static int call_row(const char *whose, const char *function, const char *operands)
+{
+    int f = found(function, functions, FUNCTIONS), row = found(operands, rows, ROWS);
+    if (f == FUNCTIONS || row == ROWS)
+        return 2;
+    for (const struct offer *o = offers; o < offers + OFFERS; o++)
+        if (strcmp(whose, o->whose) == 0) {
+            prepare(row);
+            return call(o, f, ROUNDS) ? 0 : 2;
+        }
+    return 2;
 }
 
 int main(int count, char **words)
 {
     if (count == 2 && strcmp(words[1], "agree") == 0)
         return agree();
-    for (unsigned o = 0; count == 4 && o < sizeof offers / sizeof *offers; o++)
-        for (enum row row = RANDOM; row < ROWS; row++)
-            if (strcmp(words[1], offers[o].whose) == 0 && strcmp(words[3], rows[row]) == 0) {
-                prepare(row);
-                return call(&offers[o], words[2]);
-            }
-    return 2;
+    if (count == 2 && strcmp(words[1], "nanoseconds") == 0)
+        return nanoseconds();
+    return count == 4 ? call_row(words[1], words[2], words[3]) : 2;
 }

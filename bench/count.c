@@ -5,31 +5,31 @@
 
 typedef uint64_t plugin_id;
 struct qemu_plugin_tb;
-enum callback_flags { NO_REGISTERS };
+struct qemu_plugin_insn;
+enum operation { ADD };
 
 void qemu_plugin_register_vcpu_tb_trans_cb(plugin_id id,
                                            void (*translated)(plugin_id, struct qemu_plugin_tb *));
-void qemu_plugin_register_vcpu_tb_exec_cb(struct qemu_plugin_tb *block,
-                                          void (*run)(unsigned, void *),
-                                          enum callback_flags flags, void *data);
+void qemu_plugin_register_vcpu_tb_exec_inline(struct qemu_plugin_tb *block, enum operation operation,
+                                              void *to, uint64_t number);
+void qemu_plugin_register_vcpu_insn_exec_inline(struct qemu_plugin_insn *instruction,
+                                                enum operation operation, void *to, uint64_t number);
 size_t qemu_plugin_tb_n_insns(const struct qemu_plugin_tb *block);
+struct qemu_plugin_insn *qemu_plugin_tb_get_insn(const struct qemu_plugin_tb *block, size_t place);
 void qemu_plugin_register_atexit_cb(plugin_id id, void (*ended)(plugin_id, void *), void *data);
 
 int qemu_plugin_version = 1;
 
 static uint64_t instructions;
 
-static void run(unsigned processor, void *length)
-{
-    (void)processor;
-    instructions += (uintptr_t)length;
-}
-
+/* The last instruction is counted by itself: one that crosses a page is listed here, and yet qemu takes it out
+ * of the block again and begins the next one with it. */
 static void translated(plugin_id id, struct qemu_plugin_tb *block)
 {
+    size_t last = qemu_plugin_tb_n_insns(block) - 1;
     (void)id;
-    qemu_plugin_register_vcpu_tb_exec_cb(block, run, NO_REGISTERS,
-                                         (void *)qemu_plugin_tb_n_insns(block));
+    qemu_plugin_register_vcpu_tb_exec_inline(block, ADD, &instructions, last);
+    qemu_plugin_register_vcpu_insn_exec_inline(qemu_plugin_tb_get_insn(block, last), ADD, &instructions, 1);
 }
 
 static void ended(plugin_id id, void *data)

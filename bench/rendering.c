@@ -75,18 +75,28 @@ static float whole32(float a, float b, float c)
     return u < v ? made32(t, v - u, e) : v < u ? made32(s, u - v, e) : 0;
 }
 
-static float normal32(uint32_t sign, uint64_t n, unsigned x)
+static unsigned exponent64(double x)
 {
-    unsigned t = __builtin_clzll(n);
-    return float_of(sign | (((x - 111 - t) << 23) + (uint32_t)nearest(n << (t - 1), 39)));
+    return bytes64(x) << 1 >> 53;
 }
 
-static float outside32(float a, float b, float c)
+/* Where the sum in double, s, is no normal float or one from 2^127 on. */
+static float outside32(float a, float b, float c, double p, double s)
 {
-    if (a == 0 || b == 0)
-        return settled(a * b + c);
-    if (c == 0)
-        return settled(a * b);
+    if (p == 0)
+        return a * b + c;
+    if (s == 0 || exponent64(s) == 2047)
+        return (float)s;
+    return whole32(a, b, c);
+}
+
+/* Where the sum in double is halfway between two floats, of which m is the one of the larger size: the even one,
+ * if the sum lost no digit. */
+static float halfway32(float a, float b, float c, uint64_t m, unsigned e)
+{
+    unsigned x = bytes32(a) >> 23 & 255, y = bytes32(b) >> 23 & 255, z = bytes32(c) >> 23 & 255;
+    if (e <= x + y + 775 && e <= z + 925)
+        return (float)double_of(m - m % ((uint64_t)1 << 30));
     return whole32(a, b, c);
 }
 
@@ -94,18 +104,16 @@ float rendered_fma32(float a, float b, float c)
 {
     if (a != a || b != b || c != c)
         return float_of(QUIET32);
-    uint32_t i = bytes32(a), j = bytes32(b), l = bytes32(c);
-    uint32_t s = (i ^ j) & 0x80000000, t = l & 0x80000000;
-    unsigned x = i >> 23 & 255, y = j >> 23 & 255, z = l >> 23 & 255, d = z + 150 - (x + y);
-    if (z - 62 > 131 || y - 1 > 253 || x - 1 > 253)
-        return outside32(a, b, c);
-    if (d > 38)
-        return whole32(a, b, c);
-    uint64_t u = (uint64_t)((i & 0x7fffff) | 0x800000) * ((j & 0x7fffff) | 0x800000);
-    uint64_t v = (uint64_t)((l & 0x7fffff) | 0x800000) << d;
-    if (s == t)
-        return normal32(s, u + v, x + y);
-    return u < v ? normal32(t, v - u, x + y) : v < u ? normal32(s, u - v, x + y) : 0;
+    double p = (double)a * b, s = p + c;
+    if (s != s)
+        return float_of(QUIET32);
+    uint64_t m = bytes64(s) + ((uint64_t)1 << 28);
+    unsigned e = exponent64(s);
+    if (e - 897 > 252)
+        return outside32(a, b, c, p, s);
+    if (m % ((uint64_t)1 << 29) == 0)
+        return halfway32(a, b, c, m, e);
+    return (float)double_of(m - m % ((uint64_t)1 << 29));
 }
 
 /* ---- f64 */

@@ -1,26 +1,40 @@
-# From lines `WHOSE ROW INSTRUCTIONS` to bench/run's table of the stages. Lines of the float functions may
-# stand before them: the equaliser's aim is 1.2 times its 48 fma64.
+# From lines `WHOSE ROW INSTRUCTIONS`, and from lines `WHOSE ROW NANOSECONDS` of the second file, to bench/run's
+# tables of the stages. The variable compiler names the machine's. There are no nanoseconds where an emulator runs
+# the programs.
 
-NF == 3 { counted[$1, $2] = $3 }
-NF == 4 && $2 == "fma64" && $3 == "random" { fma64[$1] = $4 }
+FILENAME == ARGV[1] { counted[$1, $2] = $3; next }
+{ took[$1, $2] = $3; timed = 1 }
 
 # A step's call, its return and the answer's place are 3, and the function that only returns has them too.
-function a_sample(whose, row, more) {
+function instructions(whose, row, more) {
     if (!((whose, row) in counted))
-        return "no fma"
+        return "-"
     return sprintf("%.1f", (counted[whose, row] - counted["nothing", row]) / samples + more)
 }
 
-function line(title, row, more, aim) {
-    printf "%-32s%10s%10s%12s%8s\n", title, a_sample("hoofglaze", row, more), a_sample("soft", row, more), \
-        a_sample("hardware", row, more), aim
+function nanoseconds(whose, row) {
+    return (whose, row) in took ? sprintf("%.1f", took[whose, row]) : "-"
 }
 
-END {
-    samples = 4 * 4096
-    one_fma64 = (fma64["hoofglaze"] - fma64["nothing"]) / (8 * 4096) + 2
-    printf "\n%-32s%10s%22s\n", "instructions a sample", "", "in C, with an fma"
-    printf "%-32s%10s%10s%12s%8s\n", "", "library", "soft", "hardware", "aim"
+function a_sample(whose, row, more) {
+    return unit == "nanoseconds" ? nanoseconds(whose, row) : instructions(whose, row, more)
+}
+
+function in_c(by, row, more) {
+    return sprintf("%14s%9s%10s", a_sample(by "soft", row, more), a_sample(by "musl", row, more), \
+        a_sample(by "hardware", row, more))
+}
+
+function line(title, row, more, aim) {
+    printf "%-27s%9s%s%s%7s\n", title, a_sample("hoofglaze", row, more), in_c("", row, more), \
+        in_c("kit-", row, more), unit == "nanoseconds" ? "" : aim
+}
+
+function table() {
+    heads = sprintf("%14s%9s%10s", "rendered", "musl's", "hardware")
+    printf "%-27s%9s%33s%33s\n", unit " a sample", "", "in C by " compiler ", the fma", \
+        "by the kit's clang, the fma"
+    printf "%-27s%9s%s%s%7s\n", "", "library", heads, heads, unit == "nanoseconds" ? "" : "aim"
     line("follower, a call", "follower", 3)
     line("DC blocker, a call", "blocker", 3)
     line("gate", "gate")
@@ -28,7 +42,7 @@ END {
     line("gate, with a record", "gate-record")
     line("clipper, hard", "hard")
     line("clipper, triode", "triode")
-    line("equaliser, 16 bands set", "eq", 0, sprintf("%.0f", 1.2 * 48 * one_fma64))
+    line("equaliser, 16 bands set", "eq", 0, 5920)
     line("equaliser, none set", "eq-flat")
     line("tone stack", "tone")
     line("saturator", "saturator")
@@ -37,6 +51,20 @@ END {
     line("leveller, ratio 4, loud", "leveller-4")
     line("leveller, ratio 4, soft", "leveller-soft")
     line("leveller, ratio 4, silence", "leveller-silence")
-    if (!(("hardware", "gate") in counted))
-        print "no fma: the counter offers the program no such instruction here"
+}
+
+END {
+    samples = 4 * 4096
+    unit = "instructions"
+    table()
+    if (!(("soft", "gate") in counted))
+        print "no " compiler ": this machine has none that makes x86-64 programs"
+    if (!(("kit-hardware", "gate") in counted))
+        print "no hardware fma: the counter offers the program no such instruction here"
+    print ""
+    unit = "nanoseconds"
+    if (timed)
+        table()
+    else
+        print "nanoseconds a sample: none, as an emulator runs the programs here"
 }

@@ -1,6 +1,9 @@
-/* stages WHOSE ROW: runs one row's samples, for an instruction counter. stages agree: whether the
- * library and the same steps in C give the same bits. stages fused: whether this processor has a fused
- * multiply-add. */
+/* stages WHOSE ROW: runs one row's samples, for an instruction counter. stages offers: who may be named, those
+ * with the processor's fused multiply-add only where it has one. stages nanoseconds: how long a sample takes, a
+ * line for each of them and each row. stages agree: whether the library and the same steps in C give the same
+ * bits. MACHINE is defined where the machine's compiler made steps, MUSL where there is musl's fma. */
+#include "clock.h"
+
 #include "stages.h"
 
 #include <stdio.h>
@@ -9,7 +12,7 @@
 #include "settings.h"
 #include "steps/worked.h"
 
-enum { SAMPLES = 4096, ROUNDS = 4 };
+enum { SAMPLES = 4096, ROUNDS = 4, TURNS = 30 };
 
 static float input[SAMPLES], output[ROUNDS][SAMPLES];
 static uint8_t aims[ROUNDS][SAMPLES];
@@ -187,14 +190,14 @@ enum { ROWS = sizeof rows / sizeof *rows };
 __asm__(".text\n.globl nothing\nnothing:\n\tmovq %rdi, %rax\n\tret\n");
 void nothing(void);
 
-static struct offer offer_of_nothing(void)
+static struct offer none;
+
+static void fill_none(void)
 {
-    void (*all[sizeof(struct offer) / sizeof(void (*)(void))])(void);
-    struct offer o;
+    void (*all[sizeof none / sizeof(void (*)(void))])(void);
     for (unsigned i = 0; i < sizeof all / sizeof *all; i++)
         all[i] = nothing;
-    memcpy(&o, all, sizeof o);
-    return o;
+    memcpy(&none, all, sizeof none);
 }
 
 static const struct offer library = {
@@ -203,11 +206,76 @@ static const struct offer library = {
     hoofglaze_saturator_block, hoofglaze_leveller_block,
 };
 
+static const struct {
+    const char *whose;
+    const struct offer *steps;
+    int fused;
+} offers[] = {
+    {"nothing", &none, 0},
+    {"hoofglaze", &library, 0},
+    {"kit-soft", &kit_soft, 0},
+    {"kit-hardware", &kit_hardware, 1},
+#ifdef MUSL
+    {"kit-musl", &kit_musl, 0},
+#endif
+#ifdef MACHINE
+    {"soft", &soft, 0},
+    {"hardware", &hardware, 1},
+#endif
+#if defined MACHINE && defined MUSL
+    {"musl", &musl, 0},
+#endif
+};
+
+/* How many there are, and the first of them whose steps are in C. */
+enum { OFFERS = sizeof offers / sizeof *offers, IN_C = 2 };
+
 static int fused(void)
 {
     unsigned a = 1, b, c, d;
     __asm__("cpuid" : "+a"(a), "=b"(b), "=c"(c), "=d"(d));
     return (c >> 12 & c >> 27 & 1) == 1;
+}
+
+static int runs(int offer)
+{
+    return !offers[offer].fused || fused();
+}
+
+static int name_offers(void)
+{
+    for (int i = 0; i < OFFERS; i++)
+        if (runs(i))
+            printf("%s\n", offers[i].whose);
+    return 0;
+}
+
+/* ---- nanoseconds, with the loop around the call: the quickest of some turns, which all but the one that does
+ * nothing take by rotation, and of which the first only warms up */
+
+static void time_row(const struct row *row)
+{
+    double least[OFFERS] = {0};
+    row->fill();
+    for (int turn = 0; turn <= TURNS; turn++)
+        for (int i = 1; i < OFFERS; i++) {
+            if (!runs(i))
+                continue;
+            double began = now();
+            row->run(offers[i].steps);
+            double took = (now() - began) / (ROUNDS * SAMPLES);
+            least[i] = turn <= 1 || took < least[i] ? took : least[i];
+        }
+    for (int i = 1; i < OFFERS; i++)
+        if (runs(i))
+            printf("%s %s %.2f\n", offers[i].whose, row->name, least[i]);
+}
+
+static int nanoseconds(void)
+{
+    for (const struct row *row = rows; row < rows + ROWS; row++)
+        time_row(row);
+    return 0;
 }
 
 /* ---- agreement */
@@ -241,31 +309,38 @@ static int agree(void)
     int differ = 0;
     for (const struct row *row = rows; row < rows + ROWS; row++) {
         row->fill();
-        int more = apart(row, &soft) + (fused() ? apart(row, &hardware) : 0);
-        if (more)
-            printf("%s: %d differ\n", row->name, more);
-        differ += more;
+        for (int i = IN_C; i < OFFERS; i++) {
+            int more = runs(i) ? apart(row, offers[i].steps) : 0;
+            if (more)
+                printf("%s, %s: %d differ\n", offers[i].whose, row->name, more);
+            differ += more;
+        }
     }
     printf("stages: %d samples on which the library and the steps in C differ%s\n", differ,
            fused() ? "" : " (hardware fma: this processor has none)");
     return differ != 0;
 }
 
-int main(int count, char **words)
+static int run_row(const char *whose, const char *name)
 {
-    const struct offer none = offer_of_nothing();
-    const char *const whose[] = {"nothing", "hoofglaze", "soft", "hardware"};
-    const struct offer *const offers[] = {&none, &library, &soft, &hardware};
-    if (count == 2 && strcmp(words[1], "agree") == 0)
-        return agree();
-    if (count == 2 && strcmp(words[1], "fused") == 0)
-        return !fused();
-    for (int i = 0; count == 3 && i < 4; i++)
+    for (int i = 0; i < OFFERS; i++)
         for (const struct row *row = rows; row < rows + ROWS; row++)
-            if (strcmp(words[1], whose[i]) == 0 && strcmp(words[2], row->name) == 0) {
+            if (strcmp(whose, offers[i].whose) == 0 && strcmp(name, row->name) == 0) {
                 row->fill();
-                row->run(offers[i]);
+                row->run(offers[i].steps);
                 return 0;
             }
     return 2;
+}
+
+int main(int count, char **words)
+{
+    fill_none();
+    if (count == 2 && strcmp(words[1], "agree") == 0)
+        return agree();
+    if (count == 2 && strcmp(words[1], "offers") == 0)
+        return name_offers();
+    if (count == 2 && strcmp(words[1], "nanoseconds") == 0)
+        return nanoseconds();
+    return count == 3 ? run_row(words[1], words[2]) : 2;
 }

@@ -22,4 +22,6 @@ struct offer {
                                                   float *output, size_t places);
 };
 
-extern const struct offer soft, hardware;
+/* In C by the machine's compiler, and by the kit's clang, each over the library's fused multiply-add rendered in
+ * C, musl's and the processor's. */
+extern const struct offer soft, musl, hardware, kit_soft, kit_musl, kit_hardware;

@@ -1,10 +1,10 @@
 /* writes WHOSE ROW: writes one recording many times, for an instruction counter. writes nanoseconds: how long
  * one takes, a line for each row and each that offers the writer. writes agree: whether the library and the
  * same steps in C write the same. */
-#define _POSIX_C_SOURCE 199309L /* for a clock */
+#include "clock.h"
+
 #include <stdio.h>
 #include <string.h>
-#include <time.h>
 
 #include "steps/wave_write.h"
 
@@ -67,13 +67,6 @@ static void write_row(const struct offer *offer, const struct row *row)
 
 /* ---- nanoseconds, with the loop around the call: the quickest of some rounds, in each of which all but the
  * one that does nothing take their turn */
-
-static double now(void)
-{
-    struct timespec t;
-    clock_gettime(CLOCK_MONOTONIC, &t);
-    return 1e9 * (double)t.tv_sec + (double)t.tv_nsec;
-}
 
 static void time_row(const struct row *row)
 {

@@ -1,7 +1,8 @@
-// Float arithmetic as document 01 has it: fused multiply-add in both widths, size, truncation,
-// `f64` to `f32` and back, and bits; and document 02's root. Every function is total, and every NaN
-// that it returns is the quiet 7FC00000 or 7FF8000000000000.
+// Float arithmetic as document 01 has it: fused multiply-add in both widths, and of `f32` that an
+// `f64` holds; size, truncation, `f64` to `f32` and back, and bits; and document 02's root. Every
+// function is total, and every NaN that it returns is the quiet 7FC00000 or 7FF8000000000000.
 mod casts;
+mod wide;
 
 pub use bits::bits32;
 pub use bits::bits64;
@@ -14,6 +15,7 @@ pub use casts::size32;
 pub use casts::size64;
 pub use casts::truncated;
 pub use casts::widened;
+pub use wide::wide32;
 ghost use mathlib.Core.Path.{_≡_};
 ghost use lib.Ieee.{binary32, binary64};
 ghost use Rattle.rounding.specs.Fma.{fma};

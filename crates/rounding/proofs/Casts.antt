@@ -23,6 +23,7 @@ use Rattle.rounding.proofs.Pattern.{round-bits, round-63}
 use Rattle.rounding.proofs.Values.{bits-value}
 use Rattle.rounding.proofs.Machine.{significand-some, pattern-normal, pattern-small, pattern-none}
 use Rattle.rounding.proofs.Terms.{significand-lt, pattern-finite}
+use Rattle.rounding.proofs.Laws.{keeps-what-fits}
 
 -- ---- the pattern of an `f32` from that of an `f64`
 -- an even number of b more
@@ -162,6 +163,13 @@ narrowed-is (fin s m e) h k =
 pub narrow-nan : (x : Float) → x ≡ nan → div binary32 (ofBits binary32 0) (ofBits binary32 0) ≡ narrow x
 unfolding narrow div ofBits
 narrow-nan x e = sym (ap narrow e)
+
+-- an `f32` stays
+pub narrow-own : (x : Float) → T (fits binary32 x) → narrow x ≡ x
+unfolding narrow
+narrow-own nan h = refl
+narrow-own (inf s) h = refl
+narrow-own (fin s m e) h = keeps-what-fits binary32 s m e h
 
 -- ---- `absolute`
 odd-absolute : (d : ℕ) (s : Bool) (q k l : ℕ) → odd d false q k l ≡ absolute (odd d s q k l)

@@ -31,6 +31,12 @@ pub mod Terms
 pub mod Nearby
 pub mod Zero
 pub mod Nan
+-- By way of a wider format. `Twice`: a number rounded to a wider format and then to a narrower one is rounded once, unless it lies halfway between two of the narrower's and is not exact. `Wider` says so of an `f64`'s bits, as the code cuts them.
+-- `WideSum` has the sum of a product and a third `f32` as one rounding in either format; `ByWider` is `fma` of three `f32` by the bits of that sum, a law for each test of the code.
+pub mod Twice
+pub mod Wider
+pub mod WideSum
+pub mod ByWider
 -- Machine words. `Machine` shows that shifts, remainders and counts of zeros on 64 digits compute what `specs/Steps.antt` says.
 -- `TwoDigits` and `Words` do so for numbers of two words, in base 2 ^ 62 (any operands) and 2 ^ 64 (the quick way): product, difference, and the top 63 digits.
 pub mod Machine

@@ -3,11 +3,11 @@ use mathlib.Core.Path.{_≡_, refl, sym, ap, _∙_, subst}
 use Prim.Native.Nat.{ℕ, zero, suc, _+_, _-_, _*_, _/_, _%_, _^_, _≤_, _<_, min}
 use native.Mathlib.Nat.{mul-assoc, mul-left-comm, mod-eq-of-lt, mod-mod-of-dvd, dvd-mul-right}
 use native.Mathlib.Omega.{arith}
-use mathlib.Core.Bool.{Bool, cond}
+use mathlib.Core.Bool.{Bool, true, false, not, cond}
 use lib.Dec.{T, leb, eqb, eqb→eq, not-T}
 use lib.Pow.{pow-add, pow-pos}
-use lib.Ieee.{nan, inf, Format, binary32, binary64, prec, low, hid, ones, top, unlike, sum, round, odd, ofFields, ofBits}
-use lib.Ieee.Bits.{is-false}
+use lib.Ieee.{Float, nan, inf, Format, binary32, binary64, prec, low, hid, ones, top, unlike, sum, round, odd, ofFields, ofBits, toBits, fits}
+use lib.Ieee.Bits.{is-false, ofBits-toBits}
 use lib.Ieee.Nearest.{closest}
 use lib.Ieee.Scale.{finite}
 use Rattle.rounding.specs.Steps.{Sticky, Near, significand, pattern}
@@ -36,6 +36,25 @@ fields-finite f s (suc x) t h =
 pub bits-finite : (f : Format) (b : ℕ) → b % top f / hid f < ones f → T (finite (ofBits f b))
 unfolding ofBits
 bits-finite f b h = fields-finite f (leb (top f) b) (b % top f / hid f) (b % hid f) h
+
+-- ---- and one that is
+either-away : (s b : Bool) → T (not (finite (cond b (inf s) nan)))
+either-away s true = tt
+either-away s false = tt
+
+ones-away : (f : Format) (s : Bool) (t : ℕ) → T (not (finite (ofFields f s (ones f) t)))
+unfolding ofFields
+ones-away binary32 s t = either-away s (eqb t 0)
+ones-away binary64 s t = either-away s (eqb t 0)
+
+pub ones-infinite : (f : Format) (x : Float) → T (fits f x) → toBits f x % top f / hid f ≡ ones f → T (not (finite x))
+unfolding ofBits
+ones-infinite f x h e =
+    let b = toBits f x in
+    subst (λ (z : Float). T (not (finite z))) (ofBits-toBits f x h) (subst (λ (n : ℕ). T (not (finite (ofFields f (leb (top f) b) n (b % hid f))))) (sym e) (ones-away f (leb (top f) b) (b % hid f)))
+
+pub below-finite : (f : Format) (x : Float) → T (fits f x) → toBits f x % top f / hid f < ones f → T (finite x)
+below-finite f x h l = subst (λ (z : Float). T (finite z)) (ofBits-toBits f x h) (bits-finite f (toBits f x) l)
 
 -- ---- the terms, whole
 module _ (f : Format) (a b c : ℕ) (fa : T (finite (ofBits f a))) (fb : T (finite (ofBits f b))) (fc : T (finite (ofBits f c))) where

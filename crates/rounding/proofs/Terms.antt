@@ -5,11 +5,11 @@ use Prim.Native.Nat.{ℕ, _+_, _-_, _*_, _/_, _%_, _^_, _≤_, _<_, min, max}
 use native.Mathlib.Nat.{le-trans, le-of-eq, lt-of-le-of-lt, mul-comm, mul-one, zero-mul, mul-assoc, mul-left-comm, mul-right-comm, mul-le-mul, add-mul, mul-sub, mul-lt-mul-of-pos-right, mul-pos, mod-lt, eq-zero-or-pos, zero-div, zero-add, add-mod-left, mod-eq-of-lt}
 use native.Mathlib.Omega.{arith}
 use mathlib.Core.Bool.{Bool, true, false, not, cond, Bool·beq, true≢false}
-use lib.Dec.{T, leb, eqb, eqb→eq, not-T, ltb, ltb→lt, nltb→le}
-use lib.Arith.{le→nltb}
+use lib.Dec.{T, leb, eqb, eqb→eq, le→leb, not-T, ltb, ltb→lt, nltb→le}
+use lib.Arith.{le→nltb, lt→nleb}
 use lib.Pow.{pow-add, pow-pos, pow-mono}
 use lib.Ieee.{Float, nan, inf, fin, Format, binary32, binary64, prec, low, hid, ones, top, unlike, sum, add, mul, round, size, ofBits, toBits, fits, nanBits, isNan, lt, neg}
-use lib.Ieee.Bits.{is-false, nanBits-above, ofBits-toBits}
+use lib.Ieee.Bits.{is-true, is-false, nanBits-above, ofBits-toBits}
 use lib.Ieee.Nearest.{closest}
 use lib.Ieee.Scale.{finite}
 use lib.Ieee.Exact.{HasValue}
@@ -193,19 +193,23 @@ fma-third f (inf s) y z p q h = absurd p
 fma-third f (fin s m e) nan z p q h = absurd q
 fma-third f (fin s m e) (inf t) z p q h = absurd q
 
--- ---- a pattern up to the infinity's is no NaN's
+-- ---- a pattern up to the infinity's: behind its sign, and no NaN's
+below-top : (f : Format) (b : ℕ) → b ≤ ones f * hid f → b < top f
+below-top binary32 b h = omega arith
+below-top binary64 b h = omega arith
+
+pub behind-sign : (f : Format) (s : Bool) (b : ℕ) → b ≤ ones f * hid f → (cond s (top f) 0 + b) % top f ≡ b
+behind-sign f true b h = add-mod-left (top f) b ∙ mod-eq-of-lt (below-top f b h)
+behind-sign f false b h = ap (λ (x : ℕ). x % top f) (zero-add b) ∙ mod-eq-of-lt (below-top f b h)
+
+pub sign-of : (f : Format) (s : Bool) (b : ℕ) → b ≤ ones f * hid f → leb (top f) (cond s (top f) 0 + b) ≡ s
+sign-of f true b h = is-true (leb (top f) (top f + b)) (le→leb (top f) (top f + b) (omega arith))
+sign-of f false b h = ap (leb (top f)) (zero-add b) ∙ is-false (leb (top f) b) (lt→nleb (top f) b (below-top f b h))
+
 pub no-nan : (f : Format) (s : Bool) (b : ℕ) → b ≤ ones f * hid f → T (not (nanBits f (cond s (top f) 0 + b)))
 no-nan f s b h =
     subst (λ (x : Bool). T (not x)) (sym (nanBits-above f (cond s (top f) 0 + b)))
-    (le→nltb (ones f * hid f) ((cond s (top f) 0 + b) % top f) (le-trans (le-of-eq (rest f s b h)) h))
-  where
-    under : (f : Format) (b : ℕ) → b ≤ ones f * hid f → b < top f
-    under binary32 b h = omega arith
-    under binary64 b h = omega arith
-
-    rest : (f : Format) (s : Bool) (b : ℕ) → b ≤ ones f * hid f → (cond s (top f) 0 + b) % top f ≡ b
-    rest f true b h = add-mod-left (top f) b ∙ mod-eq-of-lt (under f b h)
-    rest f false b h = ap (λ (x : ℕ). x % top f) (zero-add b) ∙ mod-eq-of-lt (under f b h)
+    (le→nltb (ones f * hid f) ((cond s (top f) 0 + b) % top f) (le-trans (le-of-eq (behind-sign f s b h)) h))
 
 -- ---- a test for what is finite
 pub not-finite : (b : Bool) (x : Float) → b ≡ finite x → not b ≡ true → T (not (finite x))

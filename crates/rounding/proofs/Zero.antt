@@ -31,7 +31,7 @@ pub round-nought : (f : Format) (s : Bool) (c : ℕ) → 0 < c → round f s 0 c
 round-nought f s c h = round-same f s 0 c 0 (2 ^ (0 + low f)) h (pow-pos (0 + low f)) (zero-mul (2 ^ (0 + low f)) ∙ sym (zero-mul c)) ∙ round-zero f s 0 ∙ nought f s
 
 -- x == 0.0 held
-abbrev Zero : Float → Type 0
+abbrev pub Zero : Float → Type 0
 Zero x = (s : Bool) × ((e : ℤ) × (x ≡ fin s 0 e))
 
 eq-nought : (x : Float) → eq x (fin false 0 (pos 0)) ≡ true → Zero x

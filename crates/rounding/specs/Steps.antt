@@ -2,9 +2,9 @@
 use mathlib.Core.Path.{_≡_}
 use mathlib.Core.Logic.{_⊎_}
 use Prim.Native.Nat.{ℕ, _+_, _-_, _*_, _/_, _%_, _^_, _≤_, _<_, max}
-use mathlib.Core.Bool.{cond}
-use lib.Dec.{eqb}
-use lib.Ieee.{Format, low, hid, ones, top}
+use mathlib.Core.Bool.{not, cond}
+use lib.Dec.{T, eqb}
+use lib.Ieee.{Float, Format, binary64, low, hid, ones, top, add, mul, isNan}
 use lib.Ieee.Nearest.{closest}
 
 -- n stands for a / g to an odd number: it is a / g where that is whole, and otherwise the odd one of the two whole numbers next to it
@@ -40,3 +40,8 @@ pub record Near (f : Format) (a b c g : ℕ) : Type 0 where
   pub c-some : 62 ≤ c % top f / hid f
   pub c-most : c % top f / hid f + 62 ≤ ones f
   pub apart : c % top f / hid f + (low f + 1) ≡ g + (a % top f / hid f + b % top f / hid f)
+
+-- s is the product and the sum of three `f32`, taken as `f64`, and no NaN
+pub record Summed (a b c s : Float) : Type 0 where
+  pub number : T (not (isNan s))
+  pub is : s ≡ add binary64 (mul binary64 a b) c

@@ -1,15 +1,18 @@
-// a * b + c for `f32` by whole numbers, whatever the operands are: a product of significands and a
+// a * b + c for finite `f32` by whole numbers, whatever their sizes: a product of significands and a
 // third one at the left end of 62 digits, added or subtracted, and rounded once.
-use crate::FRACTION;
-use crate::SIGN;
-use crate::signed;
 ghost use mathlib.Core.Path.{_≡_};
+ghost use mathlib.Core.Bool.{cond};
 ghost use Prim.Native.Nat.{_+_, _-_, _*_, _^_, _≤_, _<_, max};
 ghost use lib.Dec.{T};
 ghost use lib.Ieee.{binary32, ofBits, round, sum};
 ghost use lib.Ieee.Scale as Scale;
 ghost use Rattle.rounding.specs.Steps.{stick};
 ghost use Rattle.rounding.specs.Fma.{fma};
+
+// A pattern is a sign, an exponent of 8 digits and a fraction of 23.
+const SIGN: u64 = 0x8000_0000;
+
+const FRACTION: u64 = 23;
 
 const INFINITY: u64 = 0x7f80_0000;
 
@@ -30,12 +33,15 @@ const THIRD_UP: u64 = 38;
 // The third term's exponent beside the product's: 149 for its unit, 38 less and 14 more.
 const THIRD: u64 = 125;
 
-// Neither a NaN nor an infinity.
-fn finite(x: f32) -> bool
-    ensures { λ r. ⌜ r ≡ Scale.finite x ⌝ }
+// The value of a sign and of a bit pattern without it.
+fn signed(s: bool, b: u64) -> f32
+    requires { ⌜ b ≤ 0x7f80_0000 ⌝ }
+    ensures { λ r. ⌜ r ≡ ofBits binary32 (cond s 0x8000_0000 0 + b) ⌝ }
 {
-    let inf = f32::from_bits(INFINITY as u32);
-    x < inf && -inf < x
+    if s {
+        return f32::from_bits((SIGN + b) as u32);
+    }
+    f32::from_bits(b as u32)
 }
 
 // n * 2 ^ e with 63 digits, for an n that is not 0.
@@ -143,20 +149,13 @@ fn of_patterns(a: u64, b: u64, c: u64) -> f32
     total(s, SIGN <= c, w)
 }
 
-// a * b + c: by whole numbers where all three are finite, else what the infinity or NaN among them
-// gives.
+// a * b + c.
 pub fn whole(a: f32, b: f32, c: f32) -> f32
+    requires { ⌜ T (Scale.finite a) ⌝ }
+    requires { ⌜ T (Scale.finite b) ⌝ }
+    requires { ⌜ T (Scale.finite c) ⌝ }
     ensures { λ r. ⌜ r ≡ fma binary32 a b c ⌝ }
 {
-    if !finite(a) {
-        return bits::settled32(a * b + c);
-    }
-    if !finite(b) {
-        return bits::settled32(a * b + c);
-    }
-    if !finite(c) {
-        return bits::settled32(c);
-    }
     of_patterns(
         f32::to_bits(a) as u64,
         f32::to_bits(b) as u64,

@@ -1,88 +1,107 @@
 // Fused multiply-add for `f32`: a * b + c with the product exact and one rounding.
 //
-// A finite value is m * 2 ^ k units of its format's smallest value. The product of two is a number
-// of squares of that unit, and so is the third value: `quick` takes both whole where their
-// exponents are near, and `general` takes the rest, the smaller term cut to an odd number.
+// An `f64` holds the product of two `f32`, so its one addition rounds the sum to 53 digits. Half of
+// an `f32`'s last place added to that, and the 29 digits past it cut off, is the sum rounded once
+// to 24, unless the 53 digits lie halfway between two `f32`, where what was lost decides. If nothing
+// was, the even one is taken; what is left `general` takes by whole numbers.
 mod general;
-mod quick;
 
 ghost use mathlib.Core.Path.{_≡_};
-ghost use mathlib.Core.Bool.{cond};
-ghost use Prim.Native.Nat.{_+_, _≤_};
-ghost use lib.Ieee.{binary32, ofBits};
+ghost use Prim.Native.Nat.{_+_, _/_, _%_, _^_, _≤_};
+ghost use lib.Ieee.{binary32, binary64, toBits};
 ghost use Rattle.rounding.specs.Fma as Spec;
+ghost use Rattle.rounding.specs.Steps.{Summed};
 
-// A pattern is a sign, an exponent of 8 digits and a fraction of 23.
-const SIGN: u64 = 0x8000_0000;
+// An `f64`'s pattern is a sign, an exponent of 11 digits and a fraction of 52.
+pub const SIGN: u64 = 0x8000_0000_0000_0000;
 
-const FRACTION: u64 = 23;
+pub const FRACTION: u64 = 52;
 
-// How far a normal value's exponent lies above the least, 1: 255 is an infinity's.
-const NORMALS: u64 = 253;
+// The exponent of an infinity.
+const ONES: u64 = 2047;
 
-// The quick way's third term: its least exponent, and how far above that it may lie.
-const THIRD_LEAST: u64 = 62;
+// Where the cut serves: the exponent of the least normal `f32`, and how far above it lies the last
+// but one. A sum with the last may round to an infinity.
+pub const LEAST: u64 = 897;
 
-const THIRD_ABOVE: u64 = 131;
+pub const ABOVE: u64 = 252;
 
-// Exponents z, x and y put the third term z + 150 - (x + y) places above the product's last digit:
-// 149 for its unit, and 1 since the product has one exponent more that starts at 1.
-const THIRD_UP: u64 = 150;
+// An `f32`'s last place in an `f64`'s pattern, half of it, and the next place up, which is 0 in the
+// even one of two neighbours.
+pub const LAST_PLACE: u64 = 0x2000_0000;
 
-// So many places up, a third term of 24 digits has the 62 that the quick way holds.
-const HIGHEST: u64 = 38;
+pub const HALF: u64 = 0x1000_0000;
 
-// The value of a sign and of a bit pattern without it.
-fn signed(s: bool, b: u64) -> f32
-    requires { ⌜ b ≤ 0x7f80_0000 ⌝ }
-    ensures { λ r. ⌜ r ≡ ofBits binary32 (cond s 0x8000_0000 0 + b) ⌝ }
-{
-    if s {
-        return f32::from_bits((SIGN + b) as u32);
-    }
-    f32::from_bits(b as u32)
-}
+const EVEN: u64 = 0x4000_0000;
 
-// a * b + c outside the quick way. A zero needs no whole numbers: without a factor the product is a
-// zero exactly, and without a third term one product is the one rounding.
-fn outside(a: f32, b: f32, c: f32) -> f32
+// An `f32`'s pattern: its sign, and the digits below its exponent.
+const SIGN32: u64 = 0x8000_0000;
+
+const FRACTION32: u64 = 23;
+
+// A sum with exponent e is exact where no digit of the product, whose factors have exponents x and y,
+// and none of the third term, which has z, lies past its last: e is at most x + y + PRODUCT and
+// z + THIRD.
+const PRODUCT: u64 = 775;
+
+const THIRD: u64 = 925;
+
+// a * b + c where its `f64` s has no normal `f32`'s exponent, or the largest. A zero and an infinity
+// are exact.
+fn outside(a: f32, b: f32, c: f32, s: f64) -> f32
+    requires { ⌜ Summed a b c s ⌝ }
     ensures { λ r. ⌜ r ≡ Spec.fma binary32 a b c ⌝ }
 {
-    if a == 0.0 || b == 0.0 {
-        return bits::settled32(a * b + c);
-    }
-    if c == 0.0 {
-        return bits::settled32(a * b);
+    let e = f64::to_bits(s) % SIGN >> FRACTION;
+    if s == 0.0 || e == ONES {
+        return s as f32;
     }
     general::whole(a, b, c)
 }
 
-// The quick way takes normal factors, and a third term whose exponent lies 62 or more inside the
-// range and near the product's.
+// a * b + c where its `f64` s lies halfway between two `f32`. It is exact, and goes to the even one,
+// where no digit of the product or of c lies past its last.
+fn halfway(a: f32, b: f32, c: f32, s: f64) -> f32
+    requires { ⌜ Summed a b c s ⌝ }
+    requires { ⌜ 897 ≤ toBits binary64 s % 0x8000_0000_0000_0000 / 2 ^ 52 ⌝ }
+    requires { ⌜ toBits binary64 s % 0x8000_0000_0000_0000 / 2 ^ 52 ≤ 1149 ⌝ }
+    requires { ⌜ (toBits binary64 s + 0x1000_0000) % 0x2000_0000 ≡ 0 ⌝ }
+    ensures { λ r. ⌜ r ≡ Spec.fma binary32 a b c ⌝ }
+{
+    let n = f64::to_bits(s);
+    let e = n % SIGN >> FRACTION;
+    let x = f32::to_bits(a) as u64 % SIGN32 >> FRACTION32;
+    let y = f32::to_bits(b) as u64 % SIGN32 >> FRACTION32;
+    let z = f32::to_bits(c) as u64 % SIGN32 >> FRACTION32;
+    if e <= x + y + PRODUCT && e <= z + THIRD {
+        let m = n + HALF;
+        return f64::from_bits(m - m % EVEN) as f32;
+    }
+    general::whole(a, b, c)
+}
+
+// With a zero for a factor the product is a zero exactly, and the sum is all the rounding there is.
 pub fn fma(a: f32, b: f32, c: f32) -> f32
     ensures { λ r. ⌜ r ≡ Spec.fma binary32 a b c ⌝ }
 {
     if a != a || b != b || c != c {
         return 0.0 / 0.0;
     }
-    let i = f32::to_bits(a) as u64;
-    let j = f32::to_bits(b) as u64;
-    let k = f32::to_bits(c) as u64;
-    let x = i % SIGN >> FRACTION;
-    let y = j % SIGN >> FRACTION;
-    let z = k % SIGN >> FRACTION;
-    if THIRD_ABOVE < std::num::wrapping_sub_u64(z, THIRD_LEAST) {
-        return outside(a, b, c);
+    let p = a as f64 * b as f64;
+    let s = p + c as f64;
+    if s != s {
+        return 0.0 / 0.0;
     }
-    if NORMALS < std::num::wrapping_sub_u64(y, 1) {
-        return outside(a, b, c);
+    let n = f64::to_bits(s);
+    if ABOVE < std::num::wrapping_sub_u64(n % SIGN >> FRACTION, LEAST) {
+        if p == 0.0 {
+            return a * b + c;
+        }
+        return outside(a, b, c, s);
     }
-    if NORMALS < std::num::wrapping_sub_u64(x, 1) {
-        return outside(a, b, c);
+    let m = n + HALF;
+    if m % LAST_PLACE == 0 {
+        return halfway(a, b, c, s);
     }
-    let d = std::num::wrapping_sub_u64(z + THIRD_UP, x + y);
-    if d <= HIGHEST {
-        return quick::close(i, j, k, d);
-    }
-    general::whole(a, b, c)
+    f64::from_bits(m - m % LAST_PLACE) as f32
 }

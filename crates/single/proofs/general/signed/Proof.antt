@@ -1,4 +1,4 @@
--- `single::signed` meets its contract. Assumes nothing.
+-- `single::general::signed` meets its contract. Assumes nothing.
 use borrow.Author.Needs.{needs}
 use mathlib.Core.Path.{sym, ap, _∙_, subst}
 use Prim.Native.Nat.{ℕ, _+_}
@@ -8,8 +8,8 @@ use native.Mathlib.Nat.{zero-add}
 use lib.Dec.{T}
 use lib.Ieee.{binary32, ofBits, nanBits}
 use Rattle.rounding.proofs.Terms.{no-nan}
-use Rattle.single.proofs.signed.Statement.{statement}
-use Rattle.single.proofs.signed.Tie as tie
+use Rattle.single.proofs.general.signed.Statement.{statement}
+use Rattle.single.proofs.general.signed.Tie as tie
 
 add-result : tie.Need-add-result
 add-result c = search needs
