@@ -1,9 +1,20 @@
 //! Lists of cases: the one that is stored, and new ones.
-use super::{Case, Operation, published, roots, singles, triples};
+use super::{Case, Operation, edge_list, edges, published, roots, singles, triples};
 use crate::{random::Random, shapes::specials};
 
-/// A case of an operation, of any of its families.
-pub fn drawn(operation: Operation, random: &mut Random) -> Case {
+/// A case for a new list: half of the fused multiply-adds are at an edge of rounding.
+pub fn new(operation: Operation, random: &mut Random) -> Case {
+    match operation {
+        Operation::Fma32 | Operation::Fma64 if random.coin() => Case {
+            operation,
+            operands: random.pick(&edges::FAMILIES)(operation.format(), random),
+        },
+        _ => drawn(operation, random),
+    }
+}
+
+/// A case of an operation, of any of the families that the stored list draws from.
+fn drawn(operation: Operation, random: &mut Random) -> Case {
     let format = operation.format();
     let operands = match operation {
         Operation::Fma32 | Operation::Fma64 => random.pick(&triples::FAMILIES)(format, random),
@@ -31,7 +42,8 @@ const fn stored_count(operation: Operation) -> usize {
 }
 
 /// The stored list: the published vectors, what can be listed whole, cases of the families up to the
-/// count, a record of each number that no operation has, and a record that ends too soon.
+/// count, fused multiply-adds at edges of rounding, a record of each number that no operation has, and a record
+/// that ends too soon.
 pub fn stored() -> Vec<u8> {
     let mut random = Random::new(2);
     let mut list: Vec<u8> = published::vectors()
@@ -44,6 +56,7 @@ pub fn stored() -> Vec<u8> {
         }
         list.extend(cases.into_iter().flat_map(Case::bytes));
     }
+    list.extend(edge_list::cases().into_iter().flat_map(Case::bytes));
     for number in [0, Operation::ALL.len() as u8 + 1, 128, u8::MAX] {
         list.push(number);
         list.extend([0x55; 24]);

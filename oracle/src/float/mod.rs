@@ -1,9 +1,17 @@
 //! Float arithmetic. `oracle/README.md` says what stands where in a case and in its answer.
+#[cfg(test)]
+mod by_f64;
 mod cases;
+mod edge_list;
+mod edges;
+#[cfg(test)]
+mod kinds;
 mod published;
 mod roots;
 mod singles;
 mod triples;
+#[cfg(test)]
+mod wrong;
 
 use crate::{
     bits::{bits32, bits64, double, single},
@@ -159,7 +167,7 @@ impl Replay for Float {
 
     fn generated(&self, random: &mut Random, cases: u64) -> Vec<u8> {
         let all = (0..cases).flat_map(|_| Operation::ALL);
-        all.flat_map(|operation| cases::drawn(operation, random).bytes())
+        all.flat_map(|operation| cases::new(operation, random).bytes())
             .collect()
     }
 
