@@ -102,7 +102,7 @@ module _ (x y z : Float) (hx : T (fits binary32 x)) (hy : T (fits binary32 y)) (
           b .wide ∙ ap (λ (v : ℕ). round binary64 u v (2 ^ 1074)) (wide-none n none) ∙ round-nought binary64 u (2 ^ 1074) (pow-pos 1074)
           ∙ sym (b .narrow ∙ ap (λ (v : ℕ). round binary32 u v (2 ^ 1074)) (wide-none n none) ∙ round-nought binary32 u (2 ^ 1074) (pow-pos 1074))
 
-  -- it is not: then it is the sum
+  -- it is not finite: then it is the sum
   pub wide-away : T (not (finite (add binary64 (mul binary64 x y) z))) → add binary64 (mul binary64 x y) z ≡ fma binary32 x y z
   wide-away h = elim (once x y z hx hy hz) [ inl p ↦ p .0 | inr b ↦ absurd (clash (add binary64 (mul binary64 x y) z) (subst (λ (v : Float). T (finite v)) (sym (b .wide ∙ pattern-of (b .sign) (b .of))) (bounded (b .sign) (b .of) (wide-lt (b .of) (b .digits-le)))) h) ]
     where

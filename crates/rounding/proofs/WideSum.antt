@@ -163,7 +163,7 @@ both x y z hx hy hz fx fy fz =
     moved-c : (m j g : ℕ) → g ≤ j + 925 → m * 2 ^ j * 2 ^ 925 ≡ m * 2 ^ (j + 925 - g) * 2 ^ g
     moved-c m j g h = mul-assoc m (2 ^ j) (2 ^ 925) ∙ ap (λ (x : ℕ). m * x) (sym (pow-add 2 j 925) ∙ split (j + 925) g h) ∙ sym (mul-assoc m (2 ^ (j + 925 - g)) (2 ^ g))
 
--- ---- where an operand is not finite, nothing is rounded
+-- ---- where an operand is not finite, nothing is rounded, in whatever format
 product-finite : (x y : Float) → T (fits binary32 x) → T (fits binary32 y) → T (finite x) → T (finite y) → T (finite (mul binary64 x y))
 product-finite x y hx hy fx fy =
     let X = digits x hx fx in
@@ -183,7 +183,6 @@ plus-third f (fin s m e) nan h k = refl
 plus-third f (fin s m e) (inf t) h k = refl
 plus-third f (fin s m e) (fin t n d) h k = absurd k
 
--- ... in whatever format
 not-both : (s t : Bool) (n : ℕ) → T (not (finite (cond (eqb n 0) nan (inf (unlike s t)))))
 not-both s t n = go (eqb n 0)
   where
@@ -281,28 +280,24 @@ product-zero x y hx hy h =
 
 -- ---- three `f32`, whatever they are
 module _ (x y z : Float) (hx : T (fits binary32 x)) (hy : T (fits binary32 y)) (hz : T (fits binary32 z)) where
-  pub once : Plain x y z ⊎ Both x y z
-  once =
+  plain-or-finite : Plain x y z ⊎ (T (finite x) × (T (finite y) × T (finite z)))
+  plain-or-finite =
       elim (either-finite x) [
         | inr h ↦ inl (plain-product x y z (inl h))
         | inl fx ↦
             elim (either-finite y) [
               | inr h ↦ inl (plain-product x y z (inr h))
-              | inl fy ↦ elim (either-finite z) [ inr h ↦ inl (plain-third x y z hx hy fx fy h) | inl fz ↦ inr (both x y z hx hy hz fx fy fz) ]
+              | inl fy ↦ elim (either-finite z) [ inr h ↦ inl (plain-third x y z hx hy fx fy h) | inl fz ↦ inr (fx, (fy, fz)) ]
             ]
       ]
+
+  pub once : Plain x y z ⊎ Both x y z
+  once = elim plain-or-finite [ inl p ↦ inl p | inr o ↦ inr (both x y z hx hy hz (o .0) (o .1 .0) (o .1 .1)) ]
 
   -- a sum that is finite has operands that are
   pub finite-operands : T (finite (add binary64 (mul binary64 x y) z)) → T (finite x) × (T (finite y) × T (finite z))
   finite-operands h =
-      elim (either-finite x) [
-        | inr k ↦ absurd (away (plain-product x y z (inl k)))
-        | inl fx ↦
-            elim (either-finite y) [
-              | inr k ↦ absurd (away (plain-product x y z (inr k)))
-              | inl fy ↦ elim (either-finite z) [ inr k ↦ absurd (away (plain-third x y z hx hy fx fy k)) | inl fz ↦ (fx, (fy, fz)) ]
-            ]
+      elim plain-or-finite [
+        | inl p ↦ absurd (clash (add binary64 (mul binary64 x y) z) h (subst (λ (v : Float). T (not (finite v))) (sym (p .0)) (p .1)))
+        | inr o ↦ o
       ]
-    where
-      away : Plain x y z → ⊥
-      away p = clash (add binary64 (mul binary64 x y) z) h (subst (λ (v : Float). T (not (finite v))) (sym (p .0)) (p .1))
