@@ -1,4 +1,4 @@
--- `fma` of three normal values whose two terms are taken whole. Assumes nothing.
+-- What an exponent's field says: a finite value or none. `fma` of three normal values whose two terms are taken whole. Assumes nothing.
 use mathlib.Core.Path.{_≡_, refl, sym, ap, _∙_, subst}
 use Prim.Native.Nat.{ℕ, zero, suc, _+_, _-_, _*_, _/_, _%_, _^_, _≤_, _<_, min}
 use native.Mathlib.Nat.{mul-assoc, mul-left-comm, mod-eq-of-lt, mod-mod-of-dvd, dvd-mul-right}
