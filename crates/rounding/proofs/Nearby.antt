@@ -6,7 +6,7 @@ use native.Mathlib.Omega.{arith}
 use mathlib.Core.Bool.{Bool, true, false, not, cond}
 use lib.Dec.{T, leb, eqb, eqb→eq, not-T}
 use lib.Pow.{pow-add, pow-pos}
-use lib.Ieee.{Float, nan, inf, Format, binary32, binary64, prec, low, hid, ones, top, unlike, sum, round, odd, ofFields, ofBits, toBits, fits}
+use lib.Ieee.{Float, nan, inf, Format, binary32, binary64, prec, low, hid, ones, top, unlike, sum, round, odd, ofFields, ofBits, toBits, fits, eq}
 use lib.Ieee.Bits.{is-false, ofBits-toBits}
 use lib.Ieee.Nearest.{closest}
 use lib.Ieee.Scale.{finite}
@@ -55,6 +55,27 @@ ones-infinite f x h e =
 
 pub below-finite : (f : Format) (x : Float) → T (fits f x) → toBits f x % top f / hid f < ones f → T (finite x)
 below-finite f x h l = subst (λ (z : Float). T (finite z)) (ofBits-toBits f x h) (bits-finite f (toBits f x) l)
+
+-- ---- and none but the sign: a zero
+fields-none : (f : Format) (b : ℕ) → b % top f ≡ 0 → (b % top f / hid f ≡ 0) × (b % hid f ≡ 0)
+fields-none binary32 b h = (omega arith, omega arith)
+fields-none binary64 b h = (omega arith, omega arith)
+
+sign-zero : (f : Format) (s : Bool) → eq (ofFields f s 0 0) (ofBits f 0) ≡ true
+unfolding ofFields ofBits eq
+sign-zero binary32 true = refl
+sign-zero binary32 false = refl
+sign-zero binary64 true = refl
+sign-zero binary64 false = refl
+
+pub none-zero : (f : Format) (x : Float) → T (fits f x) → toBits f x % top f ≡ 0 → eq x (ofBits f 0) ≡ true
+unfolding ofBits
+none-zero f x h e =
+    let b = toBits f x in
+    let n = fields-none f b e in
+    subst (λ (z : Float). eq z (ofBits f 0) ≡ true) (ofBits-toBits f x h)
+    (subst (λ (k : ℕ). eq (ofFields f (leb (top f) b) k (b % hid f)) (ofBits f 0) ≡ true) (sym (n .0))
+    (subst (λ (k : ℕ). eq (ofFields f (leb (top f) b) 0 k) (ofBits f 0) ≡ true) (sym (n .1)) (sign-zero f (leb (top f) b))))
 
 -- ---- the terms, whole
 module _ (f : Format) (a b c : ℕ) (fa : T (finite (ofBits f a))) (fb : T (finite (ofBits f b))) (fc : T (finite (ofBits f c))) where

@@ -46,36 +46,25 @@ const PRODUCT: u64 = 775;
 
 const THIRD: u64 = 925;
 
-// a * b + c where its `f64` s has no normal `f32`'s exponent, or the largest. A zero and an infinity
-// are exact.
-fn outside(a: f32, b: f32, c: f32, s: f64) -> f32
+// a * b + c where no cut of its `f64` s gives it. A zero and an infinity are exact. An s halfway between
+// two `f32` is exact, and goes to the even one, where no digit of the product or of c lies past its last.
+fn rest(a: f32, b: f32, c: f32, s: f64) -> f32
     requires { ⌜ Summed a b c s ⌝ }
-    ensures { λ r. ⌜ r ≡ Spec.fma binary32 a b c ⌝ }
-{
-    let e = f64::to_bits(s) % SIGN >> FRACTION;
-    if s == 0.0 || e == ONES {
-        return s as f32;
-    }
-    general::whole(a, b, c)
-}
-
-// a * b + c where its `f64` s lies halfway between two `f32`. It is exact, and goes to the even one,
-// where no digit of the product or of c lies past its last.
-fn halfway(a: f32, b: f32, c: f32, s: f64) -> f32
-    requires { ⌜ Summed a b c s ⌝ }
-    requires { ⌜ 897 ≤ toBits binary64 s % 0x8000_0000_0000_0000 / 2 ^ 52 ⌝ }
-    requires { ⌜ toBits binary64 s % 0x8000_0000_0000_0000 / 2 ^ 52 ≤ 1149 ⌝ }
-    requires { ⌜ (toBits binary64 s + 0x1000_0000) % 0x2000_0000 ≡ 0 ⌝ }
     ensures { λ r. ⌜ r ≡ Spec.fma binary32 a b c ⌝ }
 {
     let n = f64::to_bits(s);
-    let e = n % SIGN >> FRACTION;
-    let x = f32::to_bits(a) as u64 % SIGN32 >> FRACTION32;
-    let y = f32::to_bits(b) as u64 % SIGN32 >> FRACTION32;
-    let z = f32::to_bits(c) as u64 % SIGN32 >> FRACTION32;
-    if e <= x + y + PRODUCT && e <= z + THIRD {
+    let size = n % SIGN;
+    let e = size >> FRACTION;
+    if std::num::wrapping_sub_u64(e, LEAST) <= ABOVE {
         let m = n + HALF;
-        return f64::from_bits(m - m % EVEN) as f32;
+        let x = f32::to_bits(a) as u64 % SIGN32 >> FRACTION32;
+        let y = f32::to_bits(b) as u64 % SIGN32 >> FRACTION32;
+        let z = f32::to_bits(c) as u64 % SIGN32 >> FRACTION32;
+        if m % LAST_PLACE == 0 && e <= x + y + PRODUCT && e <= z + THIRD {
+            return f64::from_bits(m - m % EVEN) as f32;
+        }
+    } else if size == 0 || e == ONES {
+        return s as f32;
     }
     general::whole(a, b, c)
 }
@@ -97,11 +86,11 @@ pub fn fma(a: f32, b: f32, c: f32) -> f32
         if p == 0.0 {
             return a * b + c;
         }
-        return outside(a, b, c, s);
+        return rest(a, b, c, s);
     }
     let m = n + HALF;
     if m % LAST_PLACE == 0 {
-        return halfway(a, b, c, s);
+        return rest(a, b, c, s);
     }
     f64::from_bits(m - m % LAST_PLACE) as f32
 }

@@ -73,8 +73,8 @@ returns-3 c =
     let a = s .args in
     zero-factor binary32 (a .a) (a .b) (a .c) (product-zero (a .a) (a .b) (held-a s) (held-b s) (c .if6 .taken))
 
-outside-requires : tie.Need-outside-requires
-outside-requires c κs = record { number = not-nan _ (c .before .before .before .if4 .left); is = refl }
+rest-requires : tie.Need-rest-requires
+rest-requires c κs = record { number = not-nan _ (c .before .before .before .if4 .left); is = refl }
 
 returns-4 : tie.Need-returns-4
 returns-4 c = search needs
@@ -92,10 +92,8 @@ add-m c =
     let i = inside c .1 in
     omega (arith, toBits-lt binary64 (sum-of s) (add-fits binary64 (mul binary64 (s .args .a) (s .args .b)) (s .args .c)))
 
-halfway-requires : tie.Need-halfway-requires
-halfway-requires c κs =
-    let i = inside (c .before) in
-    (record { number = not-nan _ (c .before .before .before .if4 .left); is = refl }, (i .0, (i .1, c .if7 .taken)))
+rest-requires-2 : tie.Need-rest-requires-2
+rest-requires-2 c κs = record { number = not-nan _ (c .before .before .before .if4 .left); is = refl }
 
 returns-5 : tie.Need-returns-5
 returns-5 c = search needs
@@ -139,10 +137,10 @@ fma-spec =
     float-to-bits-n
     wrapping-sub-u64-requires
     returns-3
-    outside-requires
+    rest-requires
     returns-4
     add-m
-    halfway-requires
+    rest-requires-2
     returns-5
     sub-result
     float-from-bits-result
