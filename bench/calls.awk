@@ -47,7 +47,7 @@ function tables() {
     heads = sprintf("%9s%8s%10s%8s%5s", "library", "in C", "soft libm", "musl", aimed("aim"))
     printf "%-28s%9s%33s%9s\n", unit " a call", "fma32", "", "fma64"
     printf "%-28s%s  %s\n", "", heads, heads
-    row("from 2^-4 to 2^4", "random", 31, 106)
+    row("from 2^-4 to 2^4", "random", 29, 106)
     row("from 2^-16 to 2^16", "spread", "", "")
     row("c = +0", "c-zero", 40, 40)
     row("a = +0", "a-zero", 40, 40)

@@ -54,15 +54,12 @@ static float made32(uint32_t sign, uint64_t n, unsigned e)
     return float_of(sign | (uint32_t)least(size, 0x7f800000));
 }
 
+/* Of three finite floats. */
 static float whole32(float a, float b, float c)
 {
     uint32_t i = bytes32(a), j = bytes32(b), l = bytes32(c);
     uint32_t s = (i ^ j) & 0x80000000, t = l & 0x80000000;
     i &= 0x7fffffff, j &= 0x7fffffff, l &= 0x7fffffff;
-    if (i >= 0x7f800000 || j >= 0x7f800000)
-        return settled(a * b + c);
-    if (l >= 0x7f800000)
-        return c;
     struct part x = part_of(i, 23), y = part_of(j, 23), z = part_of(l, 23);
     uint64_t u = x.m * y.m << 14, v = z.m << 38;
     unsigned e = x.k + y.k, f = z.k + 125;
@@ -80,23 +77,21 @@ static unsigned exponent64(double x)
     return bytes64(x) << 1 >> 53;
 }
 
-/* Where the sum in double, s, is no normal float or one from 2^127 on. */
-static float outside32(float a, float b, float c, double p, double s)
-{
-    if (p == 0)
-        return a * b + c;
-    if (s == 0 || exponent64(s) == 2047)
-        return (float)s;
-    return whole32(a, b, c);
-}
+static const unsigned LEAST = 897, ABOVE = 252;
 
-/* Where the sum in double is halfway between two floats, of which m is the one of the larger size: the even one,
- * if the sum lost no digit. */
-static float halfway32(float a, float b, float c, uint64_t m, unsigned e)
+/* Where no cut of the sum in double, s, serves. Zeros and infinities are exact, and s goes to the even one of two
+ * floats where it is halfway between them and lost no digit. */
+static float rest32(float a, float b, float c, double s)
 {
-    unsigned x = bytes32(a) >> 23 & 255, y = bytes32(b) >> 23 & 255, z = bytes32(c) >> 23 & 255;
-    if (e <= x + y + 775 && e <= z + 925)
-        return (float)double_of(m - m % ((uint64_t)1 << 30));
+    uint64_t m = bytes64(s) + ((uint64_t)1 << 28);
+    unsigned e = exponent64(s);
+    if (e - LEAST <= ABOVE) {
+        unsigned x = bytes32(a) >> 23 & 255, y = bytes32(b) >> 23 & 255, z = bytes32(c) >> 23 & 255;
+        if (m % ((uint64_t)1 << 29) == 0 && e <= x + y + 775 && e <= z + 925)
+            return (float)double_of(m - m % ((uint64_t)1 << 30));
+    } else if (bytes64(s) << 1 == 0 || e == 2047) {
+        return (float)s;
+    }
     return whole32(a, b, c);
 }
 
@@ -109,10 +104,10 @@ float rendered_fma32(float a, float b, float c)
         return float_of(QUIET32);
     uint64_t m = bytes64(s) + ((uint64_t)1 << 28);
     unsigned e = exponent64(s);
-    if (e - 897 > 252)
-        return outside32(a, b, c, p, s);
+    if (e - LEAST > ABOVE)
+        return p == 0 ? a * b + c : rest32(a, b, c, s);
     if (m % ((uint64_t)1 << 29) == 0)
-        return halfway32(a, b, c, m, e);
+        return rest32(a, b, c, s);
     return (float)double_of(m - m % ((uint64_t)1 << 29));
 }
 

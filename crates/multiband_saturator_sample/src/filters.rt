@@ -5,24 +5,14 @@ use crate::Split;
 use multiband_saturator_settings::Crossover;
 use multiband_saturator_settings::Numbers;
 ghost use mathlib.Core.Path.{_≡_};
-ghost use lib.Ieee.{binary32};
-ghost use Rattle.rounding.specs.Fma.{fma};
 ghost use Rattle.multiband_saturator_sample.specs.Filters as Filters;
-
-// sum + a * b + c * d, each product fused with what stands before it. LLVM calls it, where it would put
-// each of the fused steps into the filter's code: the filter is quicker so.
-fn with_products(sum: f32, a: f32, b: f32, c: f32, d: f32) -> f32
-    ensures { λ r. ⌜ r ≡ fma binary32 c d (fma binary32 a b sum) ⌝ }
-{
-    float::fma32(c, d, float::fma32(a, b, sum))
-}
 
 // The biquad's output: each product but the last fused with its sum.
 fn output(n: Numbers, b: Biquad, x: f32) -> f32
     ensures { λ r. ⌜ r ≡ Filters.output n b x ⌝ }
 {
-    let inputs = with_products(n.b1 * b.x1, n.b0, x, n.b2, b.x2);
-    with_products(inputs, n.a1, -b.y1, n.a2, -b.y2)
+    let inputs = float::fma32(n.b2, b.x2, float::fma32(n.b0, x, n.b1 * b.x1));
+    float::fma32(n.a2, -b.y2, float::fma32(n.a1, -b.y1, inputs))
 }
 
 // The biquad after a sample x: the one place that writes a filter's registers. Every NaN in it is the quiet one.

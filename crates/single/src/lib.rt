@@ -7,8 +7,7 @@
 mod general;
 
 ghost use mathlib.Core.Path.{_≡_};
-ghost use Prim.Native.Nat.{_+_, _/_, _%_, _^_, _≤_};
-ghost use lib.Ieee.{binary32, binary64, toBits};
+ghost use lib.Ieee.{binary32};
 ghost use Rattle.rounding.specs.Fma as Spec;
 ghost use Rattle.rounding.specs.Steps.{Summed};
 
@@ -48,6 +47,7 @@ const THIRD: u64 = 925;
 
 // a * b + c where no cut of its `f64` s gives it. A zero and an infinity are exact. An s halfway between
 // two `f32` is exact, and goes to the even one, where no digit of the product or of c lies past its last.
+// It is long and called twice, so LLVM leaves it a function, and puts `fma` into the code of the stages.
 fn rest(a: f32, b: f32, c: f32, s: f64) -> f32
     requires { ⌜ Summed a b c s ⌝ }
     ensures { λ r. ⌜ r ≡ Spec.fma binary32 a b c ⌝ }
