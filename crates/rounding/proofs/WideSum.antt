@@ -5,10 +5,10 @@ use mathlib.Core.Logic.{_⊎_, inl, inr}
 use Prim.Native.Nat.{ℕ, zero, _+_, _-_, _*_, _/_, _%_, _^_, _≤_, _<_}
 use native.Mathlib.Nat.{lt-of-lt-of-le, lt-of-le-of-lt, le-of-lt, le-trans, add-le-add, mul-le-mul-right, mul-assoc, mul-comm, mul-mul-mul-comm, mul-pos, mul-le-mul, eq-zero-or-pos, zero-mul, mul-sub, add-mul}
 use native.Mathlib.Omega.{arith}
-use mathlib.Core.Bool.{Bool, true, false, not, _&&_, Bool·beq, cond}
+use mathlib.Core.Bool.{Bool, true, false, not, _&&_, Bool·beq, cond, true≢false}
 use lib.Dec.{T, leb, ltb, eqb, ltb→lt}
 use lib.Pow.{pow-add, pow-pos, pow-mono, shl-lt}
-use lib.Ieee.{Float, nan, inf, fin, Format, binary32, binary64, up, down, unlike, sum, add, mul, eq, round, fits, ofBits, toBits, size}
+use lib.Ieee.{Float, nan, inf, fin, Format, binary32, binary64, up, down, unlike, sum, add, mul, eq, round, fits, ofBits, toBits, size, isNan}
 use lib.Ieee.Fits.{down-pos, up-pos}
 use lib.Ieee.Digits.{size-le}
 use lib.Ieee.Exact.{HasValue, round-exact}
@@ -18,7 +18,7 @@ use Rattle.rounding.specs.Steps.{significand}
 use Rattle.rounding.specs.Fma.{product, fma}
 use Rattle.rounding.proofs.Values.{bits-value, add-at, fma-at}
 use Rattle.rounding.proofs.Terms.{significand-lt, pattern-finite, product-plain, fma-plain, fma-third}
-use Rattle.rounding.proofs.Zero.{Zero, is-zero}
+use Rattle.rounding.proofs.Zero.{Zero, is-zero, zero-eq, product-none}
 
 -- ---- a finite `f32` by its digits
 -- the exponent's field of an `f32`
@@ -277,6 +277,18 @@ product-zero x y hx hy h =
   where
     away : Zero (mul binary64 x y) → T (not (finite x)) ⊎ T (not (finite y)) → ⊥
     away w k = clash (mul binary64 x y) (subst (λ (v : Float). T (finite v)) (sym (w .1 .1)) tt) (subst (λ (v : Float). T (not (finite v))) (sym (product-plain binary64 x y k)) (product-away x y k))
+
+-- ... and where it is none, of a sum that is no NaN, no factor is
+pub product-some : (x y z : Float) → T (not (isNan (add binary64 (mul binary64 x y) z))) → eq (mul binary64 x y) (ofBits binary64 0) ≡ false
+    → (eq x (ofBits binary32 0) ≡ false) × (eq y (ofBits binary32 0) ≡ false)
+product-some x y z k h = (some (eq x (ofBits binary32 0)) (λ t. none (inl (is-zero binary32 x t))), some (eq y (ofBits binary32 0)) (λ t. none (inr (is-zero binary32 y t))))
+  where
+    none : Zero x ⊎ Zero y → ⊥
+    none w = true≢false (sym (zero-eq binary64 (mul binary64 x y) (product-none binary64 x y z w k)) ∙ h)
+
+    some : (b : Bool) → (b ≡ true → ⊥) → b ≡ false
+    some true n = absurd (n refl)
+    some false n = refl
 
 -- ---- three `f32`, whatever they are
 module _ (x y z : Float) (hx : T (fits binary32 x)) (hy : T (fits binary32 y)) (hz : T (fits binary32 z)) where

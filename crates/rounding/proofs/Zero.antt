@@ -9,7 +9,7 @@ use mathlib.Core.Bool.{Bool, true, false, not, _&&_, _||_, cond, Bool·beq, true
 use lib.IntN.{ℤ, pos, _+ℤ_}
 use lib.Dec.{T, ltb, eqb, eqb→eq}
 use lib.Pow.{pow-pos}
-use lib.Ieee.{Float, nan, inf, fin, Format, binary32, binary64, low, top, up, down, unlike, round, sum, add, mul, eq, ofBits}
+use lib.Ieee.{Float, nan, inf, fin, Format, binary32, binary64, low, top, up, down, unlike, round, sum, add, mul, eq, ofBits, isNan}
 use lib.Ieee.Fits.{down-pos, up-pos, and-l}
 use lib.Ieee.Exact.{HasValue}
 use lib.Ieee.Scale.{round-same, finite}
@@ -66,6 +66,20 @@ not-zero f s m e h =
       | inr p ↦ p
     ]
 
+pub zero-eq : (f : Format) (x : Float) → Zero x → eq x (ofBits f 0) ≡ true
+zero-eq f x w = ap (eq x) (nought f false) ∙ ap (λ (v : Float). eq v (fin false 0 (pos 0))) (w .1 .1) ∙ nought-eq (w .0) (w .1 .0)
+
+zero-finite : (x : Float) → Zero x → T (finite x)
+zero-finite x w = subst (λ (v : Float). T (finite v)) (sym (w .1 .1)) tt
+
+zero-digits : (s : Bool) (m : ℕ) (e : ℤ) → Zero (fin s m e) → m ≡ 0
+zero-digits s m e w = ap digits (w .1 .1)
+  where
+    digits : Float → ℕ
+    digits nan = 0
+    digits (inf i) = 0
+    digits (fin i k g) = k
+
 -- ---- a factor is a zero
 
 -- adding a zero, however it is written, to a finite value
@@ -101,14 +115,28 @@ zero-factor f nan (fin t n d) z h = fma-plain f nan (fin t n d) z (inl tt)
 zero-factor f (inf s) (fin t n d) z h = fma-plain f (inf s) (fin t n d) z (inl tt)
 zero-factor f (fin s m e) (fin t n d) z h = both f s t m n e d z (none h)
   where
-    digits : Float → ℕ
-    digits nan = 0
-    digits (inf i) = 0
-    digits (fin i k g) = k
-
     none : Zero (fin s m e) ⊎ Zero (fin t n d) → m * n ≡ 0
-    none (inl w) = ap (λ (x : ℕ). x * n) (ap digits (w .1 .1)) ∙ zero-mul n
-    none (inr w) = ap (λ (x : ℕ). m * x) (ap digits (w .1 .1)) ∙ mul-zero m
+    none (inl w) = ap (λ (x : ℕ). x * n) (zero-digits s m e w) ∙ zero-mul n
+    none (inr w) = ap (λ (x : ℕ). m * x) (zero-digits t n d w) ∙ mul-zero m
+
+-- ... and a sum that is no NaN: then the product is one
+pub product-none : (f : Format) (x y z : Float) → Zero x ⊎ Zero y → T (not (isNan (add f (mul f x y) z))) → Zero (mul f x y)
+unfolding mul add isNan
+product-none f nan y z h k = absurd k
+product-none f (inf s) nan z h k = absurd k
+product-none f (inf s) (inf t) z (inl w) k = absurd (zero-finite (inf s) w)
+product-none f (inf s) (inf t) z (inr w) k = absurd (zero-finite (inf t) w)
+product-none f (inf s) (fin t n d) z (inl w) k = absurd (zero-finite (inf s) w)
+product-none f (inf s) (fin t n d) z (inr w) k = absurd (subst (λ (x : ℕ). T (not (isNan (add f (cond (eqb x 0) nan (inf (unlike s t))) z)))) (zero-digits t n d w) k)
+product-none f (fin s m e) nan z h k = absurd k
+product-none f (fin s m e) (inf t) z (inl w) k = absurd (subst (λ (x : ℕ). T (not (isNan (add f (cond (eqb x 0) nan (inf (unlike s t))) z)))) (zero-digits s m e w) k)
+product-none f (fin s m e) (inf t) z (inr w) k = absurd (zero-finite (inf t) w)
+product-none f (fin s m e) (fin t n d) z h k =
+    (unlike s t, (pos 0, ap (λ (x : ℕ). round f (unlike s t) x (down e * down d)) (none h) ∙ round-nought f (unlike s t) (down e * down d) (mul-pos (down-pos e) (down-pos d))))
+  where
+    none : Zero (fin s m e) ⊎ Zero (fin t n d) → m * up e * (n * up d) ≡ 0
+    none (inl w) = ap (λ (x : ℕ). x * up e * (n * up d)) (zero-digits s m e w) ∙ simp (zero-mul)
+    none (inr w) = ap (λ (x : ℕ). m * up e * (x * up d)) (zero-digits t n d w) ∙ simp (zero-mul, mul-zero)
 
 -- ---- the third term is a zero, and no factor is
 

@@ -69,7 +69,8 @@ fn rest(a: f32, b: f32, c: f32, s: f64) -> f32
     general::whole(a, b, c)
 }
 
-// With a zero for a factor the product is a zero exactly, and the sum is all the rounding there is.
+// With a zero for a factor the product is a zero exactly, and the sum is all the rounding there is;
+// with one for the third term, the product is.
 pub fn fma(a: f32, b: f32, c: f32) -> f32
     ensures { λ r. ⌜ r ≡ Spec.fma binary32 a b c ⌝ }
 {
@@ -85,6 +86,9 @@ pub fn fma(a: f32, b: f32, c: f32) -> f32
     if ABOVE < std::num::wrapping_sub_u64(n % SIGN >> FRACTION, LEAST) {
         if p == 0.0 {
             return a * b + c;
+        }
+        if c == 0.0 {
+            return a * b;
         }
         return rest(a, b, c, s);
     }

@@ -11,8 +11,8 @@ use lib.Ieee.Bits.{toBits-lt, nanBits-is}
 use Rattle.rounding.specs.Fma.{fma}
 use Rattle.rounding.proofs.Nan.{is-nan, not-nan, fma-nan, quotient}
 use Rattle.rounding.proofs.Nearby.{unwrapped}
-use Rattle.rounding.proofs.Zero.{zero-factor}
-use Rattle.rounding.proofs.WideSum.{product-zero}
+use Rattle.rounding.proofs.Zero.{is-zero, zero-factor, zero-third}
+use Rattle.rounding.proofs.WideSum.{product-zero, product-some}
 use Rattle.rounding.proofs.ByWider.{wide-nan, wide-cut, wide-fits, cut-no-nan}
 use borrow.Author.Needs.{needs}
 use Rattle.single.proofs.fma.Statement.{statement}
@@ -73,11 +73,18 @@ returns-3 c =
     let a = s .args in
     zero-factor binary32 (a .a) (a .b) (a .c) (product-zero (a .a) (a .b) (held-a s) (held-b s) (c .if6 .taken))
 
-rest-requires : tie.Need-rest-requires
-rest-requires c κs = record { number = not-nan _ (c .before .before .before .if4 .left); is = refl }
-
 returns-4 : tie.Need-returns-4
-returns-4 c = search needs
+returns-4 c =
+    let s = c .before .before .before .before .before .before .before .before .before .before .before in
+    let a = s .args in
+    let f = product-some (a .a) (a .b) (a .c) (not-nan _ (c .before .before .before .before .if4 .left)) (c .before .if6 .left) in
+    zero-third binary32 (a .a) (a .b) (a .c) (f .0) (f .1) (is-zero binary32 (a .c) (c .if7 .taken))
+
+rest-requires : tie.Need-rest-requires
+rest-requires c κs = record { number = not-nan _ (c .before .before .before .before .if4 .left); is = refl }
+
+returns-5 : tie.Need-returns-5
+returns-5 c = search needs
 
 -- the sum's exponent is a normal `f32`'s, and not the largest
 inside : (c : tie.Else5) → (897 ≤ field c) × (field c ≤ 1149)
@@ -95,8 +102,8 @@ add-m c =
 rest-requires-2 : tie.Need-rest-requires-2
 rest-requires-2 c κs = record { number = not-nan _ (c .before .before .before .if4 .left); is = refl }
 
-returns-5 : tie.Need-returns-5
-returns-5 c = search needs
+returns-6 : tie.Need-returns-6
+returns-6 c = search needs
 
 sub-result : tie.Need-sub-result
 sub-result c = search needs
@@ -114,7 +121,7 @@ float-from-bits-result c = cut-no-nan _ (inside (c .before) .1)
 cut : (c : tie.After-row-known4) → ofBits binary64 (bits-of c + 268435456 - (bits-of c + 268435456) % 536870912) ≡ fma binary32 (start c .args .a) (start c .args .b) (start c .args .c)
 cut c =
     let s = start c in
-    wide-cut (s .args .a) (s .args .b) (s .args .c) (held-a s) (held-b s) (held-c s) (bits-of c) refl (inside (c .before .before) .0) (inside (c .before .before) .1) (c .before .if7 .left)
+    wide-cut (s .args .a) (s .args .b) (s .args .c) (held-a s) (held-b s) (held-c s) (bits-of c) refl (inside (c .before .before) .0) (inside (c .before .before) .1) (c .before .if8 .left)
 
 float-to-float-result : tie.Need-float-to-float-result
 float-to-float-result c =
@@ -122,8 +129,8 @@ float-to-float-result c =
     let n = cut-no-nan (bits-of c) (inside (c .before .before) .1) in
     wide-fits _ (s .args .a) (s .args .b) (s .args .c) (cut c) (subst (λ (b : Bool). T (not b)) (nanBits-is binary64 _) n)
 
-returns-6 : tie.Need-returns-6
-returns-6 c = cut c
+returns-7 : tie.Need-returns-7
+returns-7 c = cut c
 
 pub fma-spec : {M : Type 1} → statement M
 fma-spec =
@@ -137,12 +144,13 @@ fma-spec =
     float-to-bits-n
     wrapping-sub-u64-requires
     returns-3
-    rest-requires
     returns-4
+    rest-requires
+    returns-5
     add-m
     rest-requires-2
-    returns-5
+    returns-6
     sub-result
     float-from-bits-result
     float-to-float-result
-    returns-6)
+    returns-7)
