@@ -50,6 +50,7 @@ function tables() {
     row("from 2^-4 to 2^4", "random", 29, 106)
     row("from 2^-16 to 2^16", "spread", "", "")
     row("c = +0", "c-zero", 40, 40)
+    row("c = +0, subnormal result", "c-zero-subnormal", "", "")
     row("a = +0", "a-zero", 40, 40)
     row("all three +0", "zeros", 40, 40)
     row("a = +0, c subnormal", "zero-subnormal", "", "")

@@ -9,6 +9,7 @@ float squares[PREPARED];
 const char *const rows[ROWS] = {
     "random",         "spread",           "c-zero",     "a-zero",  "zeros",        "subnormal",  "far", "nan",
     "zero-subnormal", "subnormal-result", "top-result", "halfway", "halfway-lost", "c-infinity",
+    "c-zero-subnormal",
 };
 
 /* ---- numbers */
@@ -118,12 +119,14 @@ static void put_row(enum row row, int i)
         put(0, i, 0, 0);
     if (row == ZEROS)
         put(1, i, 0, 0);
-    if (row == C_ZERO || row == ZEROS)
+    if (row == C_ZERO || row == ZEROS || row == C_ZERO_SUBNORMAL_RESULT)
         put(2, i, 0, 0);
     if (row == SUBNORMAL)
         put_subnormal(i % 3, i);
     if (row == A_ZERO_C_SUBNORMAL)
         put_subnormal(2, i);
+    if (row == C_ZERO_SUBNORMAL_RESULT)
+        put_subnormal(1, i);
     if (row == FAR)
         put_far(2, i);
     if (row == NOT_A_NUMBER)

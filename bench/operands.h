@@ -22,6 +22,7 @@ enum row {
     HALFWAY,
     HALFWAY_LOST,
     C_INFINITY,
+    C_ZERO_SUBNORMAL_RESULT,
     ROWS
 };
 

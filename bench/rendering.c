@@ -105,7 +105,7 @@ float rendered_fma32(float a, float b, float c)
     uint64_t m = bytes64(s) + ((uint64_t)1 << 28);
     unsigned e = exponent64(s);
     if (e - LEAST > ABOVE)
-        return p == 0 ? a * b + c : rest32(a, b, c, s);
+        return p == 0 ? a * b + c : c == 0 ? a * b : rest32(a, b, c, s);
     if (m % ((uint64_t)1 << 29) == 0)
         return rest32(a, b, c, s);
     return (float)double_of(m - m % ((uint64_t)1 << 29));

@@ -39,6 +39,7 @@ function table() {
     line("DC blocker, a call", "blocker", 3)
     line("gate", "gate")
     line("gate, closing on silence", "gate-silence")
+    line("gate, silent for long", "gate-faint")
     line("gate, with a record", "gate-record")
     line("clipper, hard", "hard")
     line("clipper, triode", "triode")

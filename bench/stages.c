@@ -91,6 +91,15 @@ static void gate(const struct offer *o)
     BLOCKS(g, o->gate_block, gate)
 }
 
+/* Closed, and of a level that is subnormal: there silence leaves it, as it is rounded back to itself. */
+static void gate_faint(const struct offer *o)
+{
+    hoofglaze_gate g = a_gate();
+    g.registers.level = 0x1p-142f;
+    g.registers.state = 0;
+    BLOCKS(g, o->gate_block, gate)
+}
+
 static void gate_record(const struct offer *o)
 {
     hoofglaze_gate g = a_gate();
@@ -168,6 +177,7 @@ static const struct row {
     {"blocker", words, blocker},
     {"gate", words, gate},
     {"gate-silence", silence, gate},
+    {"gate-faint", silence, gate_faint},
     {"gate-record", words, gate_record},
     {"hard", words, clip_hard},
     {"triode", words, clip_triode},
