@@ -2,3 +2,4 @@
 pub mod Signed
 pub mod Whole
 pub mod Reading
+pub mod Return

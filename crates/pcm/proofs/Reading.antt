@@ -1,6 +1,6 @@
 -- Reading a sample is exact, and what is read is no larger in size than 1. For any word. Assumes nothing.
 use mathlib.Core.Path.{_≡_, refl, sym, ap, _∙_, subst}
-use Prim.Native.Nat.{ℕ, suc, _-_, _*_, _^_, _≤_}
+use Prim.Native.Nat.{ℕ, suc, _-_, _*_, _^_, _≤_, _<_}
 use native.Mathlib.Nat.{lt-of-lt-of-le, mul-lt-mul-of-pos-right, mul-assoc, mul-right-comm, mul-one}
 use native.Mathlib.Omega.{arith}
 use mathlib.Core.Bool.{Bool, true, false, cond}
@@ -25,7 +25,7 @@ pub record Part (x : Float) : Type 0 where
   pub most : size ≤ 0x8000
   pub is : HasValue x sign size 0x8000
 
-unlike-plus : (s : Bool) → unlike s false ≡ s
+pub unlike-plus : (s : Bool) → unlike s false ≡ s
 unlike-plus true = refl
 unlike-plus false = refl
 
@@ -44,17 +44,21 @@ module _ (s : Bool) (k : ℕ) (most : k ≤ 0x8000) where
       (lt-of-lt-of-le (mul-lt-mul-of-pos-right {m = k} {n = 2 ^ 24} {k = 2 ^ 134} (omega arith) (pow-pos 134)) (lit≤ tt))
       (sym (mul-assoc k (2 ^ 134) 0x8000))))
 
+pub heard-plus : (n : ℕ) → n < 0x8000 → HasValue (heard (pos n)) false n 0x8000
+unfolding heard ofInt f32
+heard-plus n h = parted false n (omega arith) (ofInt binary32 (pos n)) (round-whole binary32 false n (omega arith))
+
+pub heard-minus : (n : ℕ) → n < 0x8000 → HasValue (heard (negsuc n)) true (suc n) 0x8000
+unfolding heard ofInt f32
+heard-minus n h = parted true (suc n) (omega arith) (ofInt binary32 (negsuc n)) (round-whole binary32 true (suc n) (omega arith))
+
 pub heard-part : (w : ℕ) → Part (heard (sampleOf w))
-unfolding sampleOf heard ofInt f32
+unfolding sampleOf
 heard-part w = go (ltb w 0x8000) refl
   where
-    go : (b : Bool) → ltb w 0x8000 ≡ b → Part (div binary32 (ofInt binary32 (cond b (pos w) (negsuc (0xffff - w)))) (fin false 1 (pos 15)))
-    go true e =
-        let h = ltb-true w 0x8000 e in
-        record { sign = false; size = w; most = omega arith; is = parted false w (omega arith) (ofInt binary32 (pos w)) (round-whole binary32 false w (omega arith)) }
-    go false e =
-        let h = ltb-false w 0x8000 e in
-        record { sign = true; size = suc (0xffff - w); most = omega arith; is = parted true (suc (0xffff - w)) (omega arith) (ofInt binary32 (negsuc (0xffff - w))) (round-whole binary32 true (suc (0xffff - w)) (omega arith)) }
+    go : (b : Bool) → ltb w 0x8000 ≡ b → Part (heard (cond b (pos w) (negsuc (0xffff - w))))
+    go true e = let h = ltb-true w 0x8000 e in record { sign = false; size = w; most = omega arith; is = heard-plus w h }
+    go false e = let h = ltb-false w 0x8000 e in record { sign = true; size = suc (0xffff - w); most = omega arith; is = heard-minus (0xffff - w) (omega arith) }
 
 absolute-value : (x : Float) (s : Bool) (a c : ℕ) → HasValue x s a c → HasValue (absolute x) false a c
 unfolding absolute

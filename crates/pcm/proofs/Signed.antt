@@ -42,3 +42,13 @@ pub minus-word : (n : ℕ) → n ≤ 0x8000 → (0x1_0000 - n) % 0x1_0000 ≡ wo
 unfolding wordOf
 minus-word zero h = refl
 minus-word (suc n) h = omega arith
+
+-- ---- a sample and its word
+pub plus-back : (n : ℕ) → n < 0x8000 → sampleOf (wordOf (pos n)) ≡ pos n
+unfolding sampleOf wordOf
+plus-back n h = rw (lt-ltb n 0x8000 h)
+
+pub minus-back : (n : ℕ) → n ≤ 0x8000 → sampleOf (wordOf (negℤ (pos n))) ≡ negℤ (pos n)
+unfolding sampleOf wordOf
+minus-back zero h = refl
+minus-back (suc n) h = rw (le-ltb (0xffff - n) 0x8000 (omega arith)) (ap negsuc (omega arith))

@@ -7,11 +7,11 @@ abbrev pub scaleIn : ℕ
 scaleIn = 32768
 
 abbrev pub scaleOut : ℕ
-scaleOut = 32767
+scaleOut = 32768
 
 -- the size of the lowest sample that is written, and of the highest
 abbrev pub lowest : ℕ
-lowest = 32767
+lowest = 32768
 
 abbrev pub highest : ℕ
 highest = 32767

@@ -27,10 +27,10 @@ wholeSize most nan = 0
 wholeSize most (inf s) = most
 wholeSize most (fin s m e) = min (closest (m * up e) (down e)) most
 
--- a number to the nearest whole, ties to even, held to -32767..32767, NaN as 0
+-- a number to the nearest whole, ties to even, held to -32768..32767, NaN as 0
 unfoldable pub toWhole : Float → ℤ
 toWhole y = cond (lt y nought) (negℤ (pos (wholeSize lowest y))) (pos (wholeSize highest y))
 
--- out: x*32767 rounded once, then to a whole
+-- out: x*32768 rounded once, then to a whole
 unfoldable pub written : Float → ℤ
 written x = toWhole (mul binary32 x (f32 scaleOut 1))

@@ -9,10 +9,10 @@ ghost use Rattle.pcm.specs.Samples as Samples;
 // What a sample is divided by when it is read, and a number multiplied by when it is written.
 const SCALE_IN: f32 = 32768.0;
 
-const SCALE_OUT: f32 = 32767.0;
+const SCALE_OUT: f32 = 32768.0;
 
 // The size of the lowest sample that is written, and of the highest.
-const LOWEST: u64 = 32767;
+const LOWEST: u64 = 32768;
 
 const HIGHEST: u64 = 32767;
 

@@ -3,6 +3,7 @@
 mod Parts
 mod Cut
 mod Blocks
+mod Return
 use mathlib.Core.Path.{refl}
 use mathlib.Core.List.{List}
 use Prim.Native.Nat.{ℕ}
@@ -17,10 +18,12 @@ use Rattle.noise_gate.specs.Calls.{gateOf}
 use Rattle.noise_gate.specs.declared.Gate.{Gate}
 use Rattle.silence.proofs.Accepted.{Settable, Bounded, is-settable, is-bounded, accepts}
 use Rattle.silence.proofs.Along.{by}
+use Rattle.pcm.proofs.Return.{word-itself, unwrapped}
 use Rattle.pcm_gate.specs.Pass.{after, pass}
-use Rattle.promises.specs.Program.{Refusals, Sound, EvenCut, InBlocks}
-use Rattle.promises.proofs.Program.Cut.{after-bounded, cut}
+use Rattle.promises.specs.Program.{Refusals, Sound, EvenCut, InBlocks, AsItWas}
+use Rattle.promises.proofs.Program.Cut.{after-bounded, passes, cut}
 use Rattle.promises.proofs.Program.Blocks.{program-in-blocks}
+use Rattle.promises.proofs.Program.Return.{same-bytes}
 
 pub refusals : Refusals
 unfolding pass
@@ -58,3 +61,13 @@ cuts = record {
 
 pub in-blocks : InBlocks
 in-blocks = program-in-blocks
+
+pub as-it-was : AsItWas
+as-it-was = record {
+  sample = word-itself;
+  unwrapped = unwrapped;
+  recording = λ g sound ratio input out small same.
+      let a = settable-then g sound in
+      let b = bounded-then g sound in
+      rw (passes g a b input out same, same-bytes (g .settings) a ratio (g .registers) b input small);
+}

@@ -2,18 +2,22 @@
 -- Assumes nothing.
 use mathlib.Core.Path.{_≡_}
 use mathlib.Core.List.{List, [], _∷_, _++_}
-use Prim.Native.Nat.{ℕ, _+_, _*_, _/_, _%_}
+use Prim.Native.Nat.{ℕ, _+_, _*_, _/_, _%_, _<_}
 use lib.Dec.{T}
 use lib.ListN.{length, take}
-use Rattle.answer.specs.Figures.{nought}
+use lib.Ieee.{Float}
+use Rattle.answer.specs.Buffers.{over}
+use Rattle.answer.specs.Figures.{nought, one}
 use Rattle.answer.specs.Told.{Told, doneWith}
 use Rattle.answer.specs.Blocks.{BlockUnchanged}
 use Rattle.noise_gate.specs.Bounds.{acceptable}
 use Rattle.noise_gate.specs.declared.Gate.{Gate}
 use Rattle.silence.specs.History.{allF32, SettingsF32}
+use Rattle.pcm.specs.Samples.{sampleOf, wordOf, heard, written}
 use Rattle.pcm_gate.specs.Pass.{openCount, pass}
 use Rattle.pcm_gate.specs.Program.{programGate, program}
 use Rattle.pcm_gate.specs.Turns.{begun, wrapped, toldOf, given, joined, after, ended, givenAll, Even, Full}
+use Rattle.words.specs.Words.{Bytes}
 
 -- "No refusal changes a state or an output buffer."
 pub record Refusals : Type 0 where
@@ -46,3 +50,13 @@ pub record InBlocks : Type 0 where
   pub done : (blocks : List (List ℕ)) (last : List ℕ) → toldOf (after begun blocks) last .number ≡ 0
   pub whole : (blocks : List (List ℕ)) (last out : List ℕ) → length last ≡ length out → take (length last / 2 * 2) (pass (after begun blocks .gate) last out .1) ≡ given (after begun blocks) last
   pub even : (blocks : List (List ℕ)) → Full blocks → Even blocks
+
+-- ---- a recording comes back as it was
+pub record AsItWas : Type 0 where
+  -- "every 16-bit sample read and written unchanged is itself"
+  pub sample : (w : ℕ) → w < 0x1_0000 → wordOf (written (heard (sampleOf w))) ≡ w
+  -- the word of what is written stands for it, whatever the number: none is wrapped
+  pub unwrapped : (x : Float) → sampleOf (wordOf (written x)) ≡ written x
+  -- "A gate at ratio 1 should hand back the recording it got": whatever its other settings, its registers and the buffer, the whole samples of the input; a last odd byte of the buffer stays as it was
+  pub recording : (g : Gate) → Sound g → g .settings .ratio ≡ one → (input out : List ℕ) → Bytes input → length input ≡ length out
+      → pass g input out .1 ≡ over (take (length input / 2 * 2) input) out

@@ -144,7 +144,7 @@ p8 = record {
 -- ---- P9: the words of the samples that 0.5 and -1 are written as
 unfoldable pub p9 : Row
 unfolding wordOf wholeSize toWhole written f32 neg mul lt
-p9 = record { given = wordOf (written (f32 1 2)) ∷ wordOf (written (neg one)) ∷ []; said = 16384 ∷ (0x1_0000 - 32767) ∷ [] }
+p9 = record { given = wordOf (written (f32 1 2)) ∷ wordOf (written (neg one)) ∷ []; said = 16384 ∷ (0x1_0000 - 32768) ∷ [] }
 
 -- ---- P10: the program's bytes
 unfoldable pub p10 : Row

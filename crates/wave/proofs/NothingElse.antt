@@ -12,12 +12,12 @@ use lib.Seq.{drop-drop, length-take-le}
 use borrow.Author.Tests.{eqb-true}
 use Rattle.answer.specs.Names.{bytes}
 use Rattle.answer.proofs.Names.{same-equal}
-use Rattle.words.specs.Words.{word16, word32, le16, le32}
+use Rattle.words.specs.Words.{Bytes, word16, word32, le16, le32}
 use Rattle.words.proofs.Bytes.{le16-word16, le32-word32, small32}
 use Rattle.wave.specs.Answers.{found}
 use Rattle.wave.specs.Reading.{isRate, isNamed, isFormat, isWave, read}
 use Rattle.wave.specs.Grammar as Grammar
-use Rattle.wave.specs.Grammar.{Bytes, Chunk, Formed, whole, joined, Each, none, more, IsWave}
+use Rattle.wave.specs.Grammar.{Chunk, Formed, whole, joined, Each, none, more, IsWave}
 use Rattle.wave.proofs.Moves.{both-hold, long as long-enough}
 use Rattle.wave.proofs.Passed.{Passed, each, passed-unknown, passed-skipped}
 use Rattle.wave.proofs.Turns.{Kind, skipped, format, Goes}

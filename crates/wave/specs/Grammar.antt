@@ -3,14 +3,10 @@
 use Prim.Native.Nat.{ℕ, _+_, _*_, _%_, _^_, _≤_, _<_}
 use mathlib.Core.Path.{_≡_}
 use mathlib.Core.List.{List, [], _∷_, _++_}
-use lib.ListN.{length, getD}
+use lib.ListN.{length}
 use Rattle.answer.specs.Figures.{lowestRate, highestRate}
 use Rattle.answer.specs.Names.{bytes}
 use Rattle.words.specs.Words.{le16, le32}
-
--- ---- a list of bytes
-abbrev pub Bytes : List ℕ → Type 0
-Bytes s = (i : ℕ) → getD s i 0 < 0x100
 
 -- ---- a chunk: its name, its bytes, and one more where they are odd, whatever its value
 pub record Chunk : Type 0 where

@@ -10,9 +10,9 @@ use lib.Ieee.{binary32, ofInt, toUnsigned}
 use Rattle.answer.specs.Checks as Checks
 use Rattle.answer.specs.Figures.{lowestRate, highestRate}
 use Rattle.answer.specs.Names.{bytes}
-use Rattle.words.specs.Words.{le32}
+use Rattle.words.specs.Words.{Bytes, le32}
 use Rattle.wave.specs.Answers.{found, told}
-use Rattle.wave.specs.Grammar.{Bytes, IsWave}
+use Rattle.wave.specs.Grammar.{IsWave}
 use Rattle.wave.specs.Reading.{riffSize, chunks, endWithin, walk, read}
 use Rattle.wave.specs.declared.Wave.{Wave}
 

@@ -6,9 +6,9 @@ use mathlib.Core.Path.{_≡_, refl, sym, _∙_, ap}
 use mathlib.Core.List.{List, [], _∷_, _++_}
 use lib.ListN.{length, drop, length-append, length-drop}
 use lib.Seq.{take-all, length-take-le}
-use Rattle.words.specs.Words.{word16, word32, le32, put16, put32}
+use Rattle.words.specs.Words.{Bytes, word16, word32, le32, put16, put32}
 use Rattle.wave.specs.Grammar as Grammar
-use Rattle.wave.specs.Grammar.{Bytes, Chunk, whole, joined, Formed, Each, none, more}
+use Rattle.wave.specs.Grammar.{Chunk, whole, joined, Formed, Each, none, more}
 use Rattle.wave.specs.Reading.{riffSize}
 use Rattle.wave.specs.Recordings.{Reads}
 use Rattle.wave.proofs.Inside.{inside}

@@ -8,7 +8,7 @@ use mathlib.Core.List.{List, _++_}
 use mathlib.Core.Logic.{_⊎_, inl, inr}
 use lib.ListN.{length, drop}
 use Rattle.answer.specs.Buffers.{over}
-use Rattle.wave.specs.Grammar.{Bytes}
+use Rattle.words.specs.Words.{Bytes}
 use Rattle.wave.specs.Reading.{riffSize}
 use Rattle.wave.specs.Recordings.{Reads}
 use Rattle.wave.proofs.Inside.{inside}

@@ -7,9 +7,8 @@ use mathlib.Core.Logic.{_⊎_}
 use lib.ListN.{length, take, drop}
 use Rattle.answer.specs.Buffers.{over}
 use Rattle.answer.specs.Figures.{lowestRate, highestRate}
-use Rattle.words.specs.Words.{put32}
+use Rattle.words.specs.Words.{Bytes, put32}
 use Rattle.wave.specs.Grammar as Grammar
-use Rattle.wave.specs.Grammar.{Bytes}
 use Rattle.wave.specs.Reading.{riffSize}
 use Rattle.wave.specs.Recordings.{Reads}
 use Rattle.wave_write.specs.Answers.{done, refused, told}

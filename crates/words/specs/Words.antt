@@ -1,10 +1,14 @@
 -- Words of two and four bytes in a list of bytes, the lowest byte first; and a number's bytes. Definitions only.
 -- Assumes nothing.
-use Prim.Native.Nat.{ℕ, _+_, _*_, _/_, _%_}
+use Prim.Native.Nat.{ℕ, _+_, _*_, _/_, _%_, _<_}
 use mathlib.Core.Bool.{cond}
 use mathlib.Core.List.{List, [], _∷_, _++_}
 use lib.Dec.{leb}
 use lib.ListN.{length, getD, set}
+
+-- a list of bytes
+abbrev pub Bytes : List ℕ → Type 0
+Bytes s = (i : ℕ) → getD s i 0 < 0x100
 
 -- the word whose lowest byte stands at a place
 unfoldable pub word16 : List ℕ → ℕ → ℕ

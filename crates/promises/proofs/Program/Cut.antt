@@ -7,7 +7,9 @@ use Prim.Native.Nat.{ℕ, _%_}
 use native.Mathlib.Omega.{arith}
 use lib.Dec.{T}
 use lib.ListN.{length, length-append}
+use lib.Ieee.{le}
 use borrow.Author.Tests.{eq-eqb}
+use Rattle.rounding.specs.Casts.{absolute}
 use Rattle.rounding.proofs.Smoothing.{sixty-four}
 use Rattle.answer.specs.Buffers.{over}
 use Rattle.answer.specs.Figures.{nought}
@@ -28,11 +30,18 @@ use Rattle.promises.specs.Program.{inTwo}
 use Rattle.promises.proofs.Program.Parts.{over-parts, after-parts, outputs-parts, counts-parts, outputs-length}
 
 -- ---- the registers stay in bounds
+pub heard-at-most-64 : (w : ℕ) → T (le (absolute (heard (sampleOf w))) sixty-four)
+heard-at-most-64 w = heard-size w sixty-four 64 (refl, refl) (omega arith)
+
 module _ (s : Settings) (a : Settable s) where
+  pub word-bounded : (m : Registers) (w : ℕ) → Bounded m → Bounded (next s m w)
+  unfolding next
+  word-bounded m w b = next-bounded s m (heard (sampleOf w)) a b (heard-fits w) (heard-at-most-64 w)
+
   words-bounded : (m : Registers) (ws : List ℕ) → Bounded m → Bounded (stateAfter (next s) m ws)
-  unfolding stateAfter next
+  unfolding stateAfter
   words-bounded m [] b = b
-  words-bounded m (w ∷ ws) b = words-bounded (next s m w) ws (next-bounded s m (heard (sampleOf w)) a b (heard-fits w) (heard-size w sixty-four 64 (refl, refl) (omega arith)))
+  words-bounded m (w ∷ ws) b = words-bounded (next s m w) ws (word-bounded m w b)
 
   pub after-bounded : (m : Registers) (input : List ℕ) → Bounded m → Bounded (after s m input)
   after-bounded m input b = words-bounded m (wordsOf input) b
