@@ -10,8 +10,8 @@
 
 /* What a number is multiplied by when it is written; the size of the lowest sample that is written, and of
  * the highest. */
-#define SCALE_OUT 32767.0f
-enum { LOWEST = 32767, HIGHEST = 32767 };
+#define SCALE_OUT 32768.0f
+enum { LOWEST = 32768, HIGHEST = 32767 };
 
 static inline float heard(uint8_t lower, uint8_t upper)
 {

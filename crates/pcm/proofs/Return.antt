@@ -79,7 +79,7 @@ word-itself w l = go (ltb w 0x8000) refl
 
 -- ---- any number
 held-unwrapped : (y : Float) (b : Bool) → let n = cond b (negℤ (pos (wholeSize lowest y))) (pos (wholeSize highest y)) in sampleOf (wordOf n) ≡ n
-held-unwrapped y true = minus-back (wholeSize lowest y) (whole-most lowest y)
+held-unwrapped y true = minus-back (wholeSize lowest y) (omega (arith, whole-most lowest y))
 held-unwrapped y false = plus-back (wholeSize highest y) (omega (arith, whole-most highest y))
 
 pub unwrapped : (x : Float) → sampleOf (wordOf (written x)) ≡ written x

@@ -1,8 +1,8 @@
-//! Document 01's 16-bit rule.
+//! The 16-bit rule: document 01's, written as document 02's W5 has it.
 
 const SCALE_IN: f32 = 32_768.0;
-const SCALE_OUT: f32 = 32_767.0;
-const LOWEST: i64 = -32_767;
+const SCALE_OUT: f32 = 32_768.0;
+const LOWEST: i64 = -32_768;
 const HIGHEST: i64 = 32_767;
 
 /// In: n/32768.
@@ -10,7 +10,7 @@ pub fn read(n: i16) -> f32 {
     f32::from(n) / SCALE_IN
 }
 
-/// Out: x*32767 rounded once, then to nearest whole, ties to even, held to -32767..32767, NaN as 0. The
+/// Out: x*32768 rounded once, then to nearest whole, ties to even, held to -32768..32767, NaN as 0. The
 /// whole number is worked out from the bits and by Rust's own rounding, and must be the same.
 pub fn written(x: f32) -> Result<i16, String> {
     let y = x * SCALE_OUT;
@@ -59,19 +59,27 @@ fn nearest(y: f32) -> i64 {
 
 #[cfg(test)]
 mod tests {
-    use super::written;
+    use super::{read, written};
 
     /// P9, ties, both ends, NaN and infinities.
     #[test]
     fn the_rule() {
         let of = |x: f32| written(x).unwrap();
-        assert_eq!([of(0.5), of(-1.0)], [16384, -32767]);
-        let ties = [0.5, 1.5, 2.5, -0.5, -1.5, -2.5].map(|n: f32| of(n / 32_767.0));
+        assert_eq!([of(0.5), of(-1.0)], [16384, -32768]);
+        let ties = [0.5, 1.5, 2.5, -0.5, -1.5, -2.5].map(|n: f32| of(n / 32_768.0));
         assert_eq!(ties, [0, 2, 2, 0, -2, -2]);
-        assert_eq!([of(1.0), of(1.5), of(-1.5)], [32767, 32767, -32767]);
+        assert_eq!([of(1.0), of(1.5), of(-1.5)], [32767, 32767, -32768]);
         assert_eq!(
             [of(f32::INFINITY), of(f32::NEG_INFINITY), of(f32::NAN)],
-            [32767, -32767, 0]
+            [32767, -32768, 0]
         );
+    }
+
+    /// W5: as it was read.
+    #[test]
+    fn every_sample_is_itself() {
+        for n in i16::MIN..=i16::MAX {
+            assert_eq!(written(read(n)), Ok(n));
+        }
     }
 }

@@ -159,7 +159,7 @@ fn gated(n: i16) -> Vec<u8> {
     file(8_000, &samples)
 }
 
-/// At the click the state is 1 - 0.8825, the gain 0.9 * 0.1175 + 0.1 = 0.20575, and 0.20575 / 2 * 32767 = 3370.95.
+/// At the click the state is 1 - 0.8825, the gain 0.9 * 0.1175 + 0.1 = 0.20575, and 0.20575 / 2 * 32768 = 3371.01.
 #[test]
 fn a_written_file() {
     let right = gated(3_371);
@@ -183,7 +183,7 @@ fn a_written_file() {
     }
 }
 
-/// With ratio 1 every sample leaves the gate as it is: 1/2 is written as 16383.5, which is 16384.
+/// With ratio 1 every sample leaves the gate as it is: 1/2 is written as 16384.
 #[test]
 fn a_gate_that_passes_all() {
     let json = json().replace(r#""ratio":10"#, r#""ratio":1"#);
@@ -197,7 +197,7 @@ fn with_band(numbers: [f64; 5]) -> String {
     json().replace("\"eq\":[]", &format!("\"eq\":[{band}]"))
 }
 
-/// The highest band lies above half the rate: it takes 10^(6/20) = 1.99526 of each sample, and 3370.95 becomes 6725.93.
+/// The highest band lies above half the rate: it takes 10^(6/20) = 1.99526 of each sample, and 3371.01 becomes 6726.04.
 #[test]
 fn an_equaliser_behind_it() {
     let mut decibels = [0.0; 16];
