@@ -14,7 +14,7 @@
 #include <stdint.h>
 
 /* Grows by one with each release that a host can tell from the one before; docs/RELEASES.md says how. */
-#define HOOFGLAZE_VERSION 6
+#define HOOFGLAZE_VERSION 7
 
 #ifdef __cplusplus
 extern "C" {

@@ -1,7 +1,7 @@
 //! Document 01's program over the gate: signed 16-bit samples, the lower byte first, in and out.
 //!
-//! The samples between are the Rust gate's, with the program's settings; the 16-bit rule is document
-//! 01's, written here (`sample.rs`). A list is the bytes of the program's standard input.
+//! The samples between are the Rust gate's, with the program's settings; the 16-bit rule is written
+//! here (`sample.rs`). A list is the bytes of the program's standard input.
 mod cases;
 pub(crate) mod sample;
 

@@ -1,10 +1,10 @@
 -- At ratio 1 every gain of an accepted gate is 1, so what it writes is what it read.
 -- Assumes nothing.
-use mathlib.Core.Path.{_≡_, refl, sym, ap, _∙_}
-use mathlib.Core.Bool.{Bool, true, false, cond}
+use mathlib.Core.Path.{_≡_, refl, ap, _∙_}
+use mathlib.Core.Bool.{Bool, true, false}
 use mathlib.Core.List.{List, [], _∷_}
 use Prim.Native.Nat.{ℕ, suc, _+_, _-_, _*_, _/_, _%_, _<_}
-use native.Mathlib.Nat.{mul-one, zero-mul}
+use native.Mathlib.Nat.{zero-mul}
 use native.Mathlib.Omega.{arith}
 use lib.IntN.{ℤ, pos, _+ℤ_}
 use lib.Dec.{T}
@@ -12,14 +12,13 @@ use lib.ListN.{length, take}
 use lib.Ieee.{Float, nan, inf, fin, Format, binary32, binary64, up, down, unlike, lt, add, sum, sub, div, neg, round}
 use lib.Ieee.Fits.{down-pos}
 use lib.Ieee.Scale.{finite, round-same}
-use borrow.Author.Tests.{lt-ltb, eq-eqb}
+use borrow.Author.Tests.{lt-ltb}
 use Rattle.rounding.specs.Fma.{product, fma}
 use Rattle.rounding.proofs.Smoothing.{In, plus-of, plus-finite}
 use Rattle.rounding.proofs.Scaled.{times-one}
-use Rattle.answer.specs.Buffers.{over}
 use Rattle.answer.specs.Figures.{nought, one}
 use Rattle.fold.specs.Fold.{outAfter}
-use Rattle.pcm.specs.Samples.{sampleOf, wordOf, heard, written}
+use Rattle.pcm.specs.Samples.{sampleOf, heard}
 use Rattle.pcm.proofs.Reading.{heard-fits}
 use Rattle.pcm.proofs.Return.{word-itself}
 use Rattle.noise_gate_settings.specs.declared.Settings.{Settings}
@@ -40,7 +39,7 @@ one-rounded binary32 = refl
 one-rounded binary64 = refl
 
 module _ (f : Format) where
-  one-by : (d : ℕ) (a : ℕ) → 0 < d → a ≡ 0 → (s : Bool) → sum f s a false (1 * 1 * d) (d * 1) ≡ one
+  one-by : (d a : ℕ) → 0 < d → a ≡ 0 → (s : Bool) → sum f s a false (1 * 1 * d) (d * 1) ≡ one
   unfolding sum
   one-by d a p z false = round-same f false (a + 1 * 1 * d) (d * 1) 1 1 (omega arith) (omega arith) (omega arith) ∙ one-rounded f
   one-by d a p z true = rw (lt-ltb a (1 * 1 * d) (omega arith)) (round-same f false (1 * 1 * d - a) (d * 1) 1 1 (omega arith) (omega arith) (omega arith) ∙ one-rounded f)
