@@ -1,21 +1,21 @@
 -- At ratio 1 every gain of an accepted gate is 1, so what it writes is what it read.
 -- Assumes nothing.
-use mathlib.Core.Path.{_≡_, refl, ap, _∙_}
+use mathlib.Core.Path.{_≡_, refl, sym, ap, _∙_}
+use mathlib.Core.Logic.{inl}
 use mathlib.Core.Bool.{Bool, true, false}
 use mathlib.Core.List.{List, [], _∷_}
-use Prim.Native.Nat.{ℕ, suc, _+_, _-_, _*_, _/_, _%_, _<_}
+use Prim.Native.Nat.{ℕ, suc, _+_, _*_, _/_, _%_, _<_}
 use native.Mathlib.Nat.{zero-mul}
 use native.Mathlib.Omega.{arith}
-use lib.IntN.{ℤ, pos, _+ℤ_}
+use lib.IntN.{pos}
 use lib.Dec.{T}
 use lib.ListN.{length, take}
-use lib.Ieee.{Float, nan, inf, fin, Format, binary32, binary64, up, down, unlike, lt, add, sum, sub, div, neg, round}
+use lib.Ieee.{Float, nan, inf, fin, binary32, down, unlike, lt, add, sum, sub, mul, div, neg, round}
 use lib.Ieee.Fits.{down-pos}
-use lib.Ieee.Scale.{finite, round-same}
-use borrow.Author.Tests.{lt-ltb}
-use Rattle.rounding.specs.Fma.{product, fma}
+use lib.Ieee.Scale.{finite}
 use Rattle.rounding.proofs.Smoothing.{In, plus-of, plus-finite}
 use Rattle.rounding.proofs.Scaled.{times-one}
+use Rattle.rounding.proofs.Zero.{round-nought, zero-factor}
 use Rattle.answer.specs.Figures.{nought, one}
 use Rattle.fold.specs.Fold.{outAfter}
 use Rattle.pcm.specs.Samples.{sampleOf, heard}
@@ -33,27 +33,25 @@ use Rattle.words.specs.Words.{Bytes}
 use Rattle.promises.proofs.Program.Cut.{heard-at-most-64, word-bounded}
 
 -- ---- 0 times a finite number, and 1
-one-rounded : (f : Format) → round f false 1 1 ≡ one
-unfolding round
-one-rounded binary32 = refl
-one-rounded binary64 = refl
+zero-and-one : (s : Bool) → add binary32 (fin s 0 (pos 0)) one ≡ one
+unfolding add sum round
+zero-and-one true = refl
+zero-and-one false = refl
 
-module _ (f : Format) where
-  one-by : (d a : ℕ) → 0 < d → a ≡ 0 → (s : Bool) → sum f s a false (1 * 1 * d) (d * 1) ≡ one
-  unfolding sum
-  one-by d a p z false = round-same f false (a + 1 * 1 * d) (d * 1) 1 1 (omega arith) (omega arith) (omega arith) ∙ one-rounded f
-  one-by d a p z true = rw (lt-ltb a (1 * 1 * d) (omega arith)) (round-same f false (1 * 1 * d - a) (d * 1) 1 1 (omega arith) (omega arith) (omega arith) ∙ one-rounded f)
-
-  none-of : (v : Float) → T (finite v) → fma f nought v one ≡ one
-  unfolding fma product add
-  none-of nan h = absurd h
-  none-of (inf s) h = absurd h
-  none-of (fin s m e) h = let d = pos 0 +ℤ e in one-by (down d) (0 * m * up d * 1) (down-pos d) (omega (arith, zero-mul (up d))) (unlike false s)
+no-product : (v : Float) → T (finite v) → (s : Bool) × (mul binary32 nought v ≡ fin s 0 (pos 0))
+unfolding mul
+no-product nan h = absurd h
+no-product (inf s) h = absurd h
+no-product (fin s m e) h = (unlike false s, simp zero-mul (round-nought binary32 (unlike false s) (1 * down e) (omega (arith, down-pos e))))
 
 -- ---- the gain of a state from 0 to 1
 whole-gain : (v : Float) → In binary32 one v → Step.gainAt one v ≡ one
 unfolding Step.gainAt div sub add neg sum round
-whole-gain v i = either (λ y. y ≡ one) (lt v wideOpen) (none-of binary32 v (plus-finite v (plus-of v one (i .above) (i .below) tt))) refl
+whole-gain v i =
+    let p = no-product v (plus-finite v (plus-of v one (i .above) (i .below) tt)) in
+    either (λ y. y ≡ one) (lt v wideOpen)
+    (sym (zero-factor binary32 nought v one (inl (false, (pos 0, refl)))) ∙ ap (λ (x : Float). add binary32 x one) (p .1) ∙ zero-and-one (p .0))
+    refl
 
 -- ---- samples
 module _ (s : Settings) (a : Settable s) (ratio : s .ratio ≡ one) where
