@@ -14,7 +14,7 @@
 #include <stdint.h>
 
 /* Grows by one with each release that a host can tell from the one before; docs/RELEASES.md says how. */
-#define HOOFGLAZE_VERSION 7
+#define HOOFGLAZE_VERSION 8
 
 #ifdef __cplusplus
 extern "C" {
@@ -55,8 +55,18 @@ float hoofglaze_root32(float x);
 float hoofglaze_size32(float x);
 double hoofglaze_size64(double x);
 
+/* Whether anything was thrown away: exact where the whole number given back equals the number taken, so of
+ * -0 too; else cut: a fraction, a negative number, NaN, or 2^64 and more. Where a call tells a word, 0 is
+ * none. */
+enum { HOOFGLAZE_EXACT = 1, HOOFGLAZE_CUT = 2 };
+
+typedef struct {
+    uint64_t whole;
+    uint32_t word; /* HOOFGLAZE_EXACT or HOOFGLAZE_CUT */
+} hoofglaze_truncation;
+
 /* Truncation to a whole number, toward zero; NaN and negatives give 0; at most 2^64-1. */
-uint64_t hoofglaze_truncated(float x);
+hoofglaze_truncation hoofglaze_truncated(float x);
 
 /* f64 to f32, rounded once, to nearest, ties to the even significand, subnormals kept, overflow to
  * infinity. */
@@ -102,10 +112,12 @@ double hoofglaze_from_bits64(uint64_t n);
  * A signal may be cut into blocks anywhere: where every block is done, its outputs, the last state and the
  * sum of the counts are the same, in every stage. */
 typedef struct {
-    uint32_t number; /* 0 done, or what it is refused by */
-    float value;     /* what a call read or stepped to; +0 where it does neither, or was refused */
-    size_t place;    /* that of the first sample that is refused (6), from 0; else 0 */
-    size_t count;    /* how many samples of a done block were aimed open; else 0 */
+    uint32_t number;  /* 0 done, or what it is refused by */
+    float value;      /* what a call read or stepped to; +0 where it does neither, or was refused */
+    size_t place;     /* that of the first sample that is refused (6), from 0; else 0 */
+    size_t count;     /* how many samples of a done block were aimed open; else 0 */
+    uint64_t samples; /* H, the hold in samples, of a gate's hold that was set; else 0 */
+    uint32_t word;    /* of that H: HOOFGLAZE_EXACT or HOOFGLAZE_CUT; else 0 */
 } hoofglaze_answer;
 
 /* ---- Worked numbers
@@ -221,7 +233,13 @@ hoofglaze_gate_answered hoofglaze_gate_make(float rate, float rising, float fall
 /* A setting by its name, the bytes threshold, ratio, attack, release or hold, with its value in the unit
  * above and its worked number (threshold: the factor; attack, release: the smoothing number), which ratio
  * and hold don't look at: 9, 1, 3, 4. Level, state and counter stay; so does a running counter when the
- * hold is changed. */
+ * hold is changed.
+ *
+ * Where the hold is set, the answer has H, and exact or cut: the word of H's truncation. It speaks of the
+ * float product (hold*0.001)*rate and not of hold*rate/1000: 1/16 ms at 48,000 Hz is 3 samples, but that
+ * product is 3.0000002, so cut, with H = 3; 50 ms there is exact, 2400. Of the whole milliseconds 0 to 500
+ * at 48,000 Hz 262 are cut, and none of them loses a sample. So show H beside the word: H is what the gate
+ * holds. Every other setting that is done tells neither, and so does a refusal: 0 and 0. */
 hoofglaze_gate_answered hoofglaze_gate_set(hoofglaze_gate g, const uint8_t *name, size_t bytes,
                                            float value, float worked);
 

@@ -1,8 +1,10 @@
 -- What a call tells gives its state and its answer back: no two answers tell the same, in words or in the numbers that cross to a host.
 -- Assumes nothing.
 use mathlib.Core.Path.{_≡_, refl, sym, ap}
-use Rattle.answer.specs.Told.{Told, told, toldRead}
-use Rattle.answer.specs.Crossing.{toldIn, ofRefusal, ofDone, ofAnswer, ofReading}
+use Rattle.float.specs.Truncating as truncating
+use Rattle.float.specs.declared.Truncation.{Truncation}
+use Rattle.answer.specs.Told.{Told, doneHold, told, toldRead}
+use Rattle.answer.specs.Crossing.{toldIn, ofRefusal, ofDone, ofHold, ofAnswer, ofReading}
 use Rattle.answer.specs.declared.Answer.{Answer}
 use Rattle.answer.specs.declared.Answer.the-variants as answer
 use Rattle.answer.specs.declared.Reading.{Reading}
@@ -30,6 +32,10 @@ module _ {S : Type 0} (s : S) where
   unfolding ofAnswer ofRefusal ofDone
   answer-crosses answer.Done = refl
   answer-crosses (answer.Refused r) = refl
+
+  pub hold-crosses : (t : Truncation) → toldIn s (ofHold t) ≡ doneHold s (t .whole) (truncating.number (t .word))
+  unfolding ofHold
+  hold-crosses t = refl
 
   pub reading-crosses : (a : Reading) → toldIn s (ofReading a) ≡ toldRead s a
   unfolding ofReading ofRefusal ofDone

@@ -1,18 +1,20 @@
--- A number from the lowest rate to the highest is whole exactly if it comes back from the whole number that it is cut to, which is no higher.
+-- A number from the lowest rate to the highest is whole exactly if its truncation is exact.
 -- Assumes nothing.
 use mathlib.Core.Path.{_≡_, refl, sym, ap, _∙_, subst}
 use mathlib.Core.Bool.{Bool, true, false, true≢false, _&&_, and-true, and-false}
 use Prim.Native.Nat.{ℕ, _+_, _*_, _/_, _%_, _^_, _≤_, _<_}
 use native.Mathlib.Nat.{le-trans, div-add-mod', div-le-of-le-mul, min-eq-left, mul-one, mul-right-comm, eq-of-mul-eq-mul-right}
 use native.Mathlib.Omega.{arith}
-use lib.IntN.{ℤ, pos}
-use lib.Dec.{T, eqb, le→leb, lit≤}
-use lib.Ieee.{Float, nan, inf, fin, binary32, up, down, eq, le, whole, ofInt, inFloat, toUnsigned}
+use lib.IntN.{ℤ}
+use lib.Dec.{T, eqb, lit≤}
+use lib.Ieee.{Float, nan, inf, fin, binary32, up, down, eq, le, whole, toUnsigned}
 use lib.Ieee.Exact.{HasValue}
 use lib.Ieee.Fits.{and-l, and-r, down-pos}
 use lib.Ieee.Positive.{positive, num, den, own-value, values-of-le, between}
-use lib.Ieee.Back.{round-whole}
 use borrow.Author.Tests.{eqb-true, eqb-false, eq-eqb, ne-eqb, le-leb}
+use Rattle.float.specs.Truncating.{itself, exactness}
+use Rattle.float.specs.declared.Exactness.the-variants.{Exact, Cut}
+use Rattle.float.proofs.Truncating.{said-exact, said-cut}
 use Rattle.answer.specs.Figures.{f32, lowestRate, highestRate}
 use Rattle.answer.specs.Checks.{inRange, isRate}
 
@@ -50,13 +52,13 @@ cut-part (inf s) p h = absurd p
 cut-part (fin true m e) p h = absurd p
 cut-part (fin false m e) p h = min-eq-left (le-trans h (lit≤ tt))
 
-back-part : (x : Float) → T (positive x) → num x / den x ≤ highestRate → eq (ofInt binary32 (pos (num x / den x))) x ≡ whole binary32 x
-unfolding ofInt whole
+back-part : (x : Float) → T (positive x) → num x / den x ≤ highestRate → eq (itself (num x / den x)) x ≡ whole binary32 x
+unfolding whole
 back-part nan p h = absurd p
 back-part (inf s) p h = absurd p
 back-part (fin true m e) p h = absurd p
 back-part (fin false m e) p h =
-    back-is-whole (ofInt binary32 (pos (m * up e / down e))) m e (round-whole binary32 false (m * up e / down e) (le-trans h (lit≤ tt)))
+    back-is-whole (itself (m * up e / down e)) m e (refl, mul-one (m * up e / down e * 1))
     ∙ simp (le-leb (m * up e / down e) (2 ^ 24) (le-trans h (lit≤ tt)), and-true)
 
 -- ---- of x from the lowest rate to the highest
@@ -74,13 +76,17 @@ module _ (x : Float) (ranged : inRange (f32 lowestRate 1) (f32 highestRate 1) x 
   part : num x / den x ≤ highestRate
   part = part-most x is-positive below
 
-  pub cut-exact : T (inFloat binary32 (pos (toUnsigned 64 x)))
-  unfolding inFloat
-  cut-exact = rw (cut-part x is-positive part) (le→leb (num x / den x) (2 ^ 24) (le-trans part (lit≤ tt)))
-
-  pub comes-back : eq (ofInt binary32 (pos (toUnsigned 64 x))) x ≡ isRate x
+  comes-back : eq (itself (toUnsigned 64 x)) x ≡ isRate x
   unfolding isRate
   comes-back = rw (cut-part x is-positive part, ranged) (back-part x is-positive part ∙ sym (and-true (whole binary32 x)))
+
+  pub exact-rate : Exact ≡ exactness x → true ≡ isRate x
+  unfolding exactness
+  exact-rate e = said-exact (eq (itself (toUnsigned 64 x)) x) e ∙ comes-back
+
+  pub cut-rate : Cut ≡ exactness x → false ≡ isRate x
+  unfolding exactness
+  cut-rate e = said-cut (eq (itself (toUnsigned 64 x)) x) e ∙ comes-back
 
 pub out-of-range : (x : Float) → inRange (f32 lowestRate 1) (f32 highestRate 1) x ≡ false → false ≡ isRate x
 unfolding isRate

@@ -2,6 +2,8 @@
 -- Assumes nothing.
 use Prim.Native.Nat.{ℕ}
 use lib.Ieee.{Float}
+use Rattle.float.specs.Truncating as truncating
+use Rattle.float.specs.declared.Truncation.{Truncation}
 use Rattle.answer.specs.Figures.{nought}
 use Rattle.answer.specs.Refusals as Refusals
 use Rattle.answer.specs.Told.{Told}
@@ -14,13 +16,16 @@ use Rattle.answer.specs.declared.Numbered.{Numbered}
 
 -- what it tells, s being the state after the call
 abbrev pub toldIn : {S : Type 0} → S → Numbered → Told S
-toldIn s n = record { state = s; number = n .number; place = n .place; count = n .count; value = n .value }
+toldIn s n = record { state = s; number = n .number; place = n .place; count = n .count; value = n .value; samples = n .samples; word = n .word }
 
 unfoldable pub ofRefusal : Refusal → Numbered
-ofRefusal r = record { number = Refusals.number r; value = nought; place = Refusals.place r; count = 0 }
+ofRefusal r = record { number = Refusals.number r; value = nought; place = Refusals.place r; count = 0; samples = 0; word = 0 }
 
 unfoldable pub ofDone : ℕ → Float → Numbered
-ofDone count value = record { number = 0; value = value; place = 0; count = count }
+ofDone count value = record { number = 0; value = value; place = 0; count = count; samples = 0; word = 0 }
+
+unfoldable pub ofHold : Truncation → Numbered
+ofHold t = record { number = 0; value = nought; place = 0; count = 0; samples = t .whole; word = truncating.number (t .word) }
 
 unfoldable pub ofAnswer : Answer → Numbered
 unfolding ofRefusal ofDone

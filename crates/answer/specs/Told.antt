@@ -13,26 +13,32 @@ use Rattle.answer.specs.declared.Answer.the-variants as answer
 use Rattle.answer.specs.declared.Reading.{Reading}
 use Rattle.answer.specs.declared.Reading.the-variants as reading
 
--- the state after the call, the answer's number, its place, the count of samples aimed open, and the value read or stepped
+-- the state after the call, the answer's number, its place, the count of samples aimed open, the value read or stepped, and of a hold that was set its samples and the word of their truncation
 pub record Told (S : Type 0) : Type 0 where
   pub state : S
   pub number : ℕ
   pub place : ℕ
   pub count : ℕ
   pub value : Float
+  pub samples : ℕ
+  pub word : ℕ
 
 module _ {S : Type 0} (s : S) where
-  -- a refusal leaves s as it was; its open count is 0, its value +0
+  -- a refusal leaves s as it was; its open count is 0, its value +0, and it has no word
   abbrev pub refused : Refusal → Told S
-  refused r = record { state = s; number = Refusals.number r; place = Refusals.place r; count = 0; value = nought }
+  refused r = record { state = s; number = Refusals.number r; place = Refusals.place r; count = 0; value = nought; samples = 0; word = 0 }
 
   abbrev pub doneWith : ℕ → Float → Told S
-  doneWith n x = record { state = s; number = 0; place = 0; count = n; value = x }
+  doneWith n x = record { state = s; number = 0; place = 0; count = n; value = x; samples = 0; word = 0 }
 
   abbrev pub done : Told S
   done = doneWith 0 nought
 
-  -- what an answer tells, s being the state after the call: of making, setting, reset, and of a block but the gate's
+  -- a hold set: its samples, and the number of their truncation's word
+  abbrev pub doneHold : ℕ → ℕ → Told S
+  doneHold n w = record { state = s; number = 0; place = 0; count = 0; value = nought; samples = n; word = w }
+
+  -- what an answer tells, s being the state after the call: of making and reset, and of a setting and a block but the gate's
   abbrev pub told : Answer → Told S
   told answer.Done = done
   told (answer.Refused r) = refused r

@@ -5,6 +5,7 @@ use crate::Reading;
 use crate::Refusal;
 use crate::number;
 use crate::place;
+use float::Truncation;
 use float::settled32;
 ghost use mathlib.Core.Path.{_≡_};
 ghost use Rattle.answer.specs.Crossing as crossing;
@@ -17,6 +18,8 @@ pub fn of_refusal(r: Refusal) -> Numbered
         value: 0.0,
         place: place(r),
         count: 0,
+        samples: 0,
+        word: 0,
     }
 }
 
@@ -28,6 +31,22 @@ pub fn of_done(count: usize, value: f32) -> Numbered
         value: settled32(value),
         place: 0,
         count: count,
+        samples: 0,
+        word: 0,
+    }
+}
+
+pub fn of_hold(t: Truncation) -> Numbered
+    ensures { λ n. ⌜ n ≡ crossing.ofHold t ⌝ }
+{
+    let word = t.word;
+    Numbered {
+        number: 0,
+        value: 0.0,
+        place: 0,
+        count: 0,
+        samples: t.whole,
+        word: float::word_number(word),
     }
 }
 

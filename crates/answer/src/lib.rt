@@ -3,8 +3,10 @@ mod crossing;
 
 pub use crossing::of_answer;
 pub use crossing::of_done;
+pub use crossing::of_hold;
 pub use crossing::of_reading;
 pub use crossing::of_refusal;
+use float::Exactness;
 pub use float::settled32;
 ghost use mathlib.Core.Bool.{_&&_};
 ghost use mathlib.Core.Path.{_≡_};
@@ -42,7 +44,7 @@ pub struct Timed {
     pub number: f32,
 }
 
-// What making, setting and reset answer, and a block where it has no more to say.
+// What making and reset answer, and a setting and a block where they have no more to say.
 pub enum Answer {
     Done,
     Refused(Refusal),
@@ -55,13 +57,16 @@ pub enum Reading {
 }
 
 // An answer as it crosses to a host: document 01's number, the value read or stepped, the place of the
-// first sample that is refused, and the count of samples aimed open; each +0 or 0 where the call has none.
+// first sample that is refused, the count of samples aimed open, and of a hold that was set its samples and
+// the word of their truncation; each +0 or 0 where the call has none.
 #[repr(C)]
 pub struct Numbered {
     pub number: u32,
     pub value: f32,
     pub place: usize,
     pub count: usize,
+    pub samples: u64,
+    pub word: u32,
 }
 
 // What the checks of a block find.
@@ -121,7 +126,13 @@ pub fn is_rate(rate: f32) -> bool
     ensures { λ r. ⌜ r ≡ checks.isRate rate ⌝ }
 {
     if in_range(LOWEST_RATE, HIGHEST_RATE, rate) {
-        float::truncated(rate) as f32 == rate
+        let t = float::truncated(rate);
+        let word = t.word;
+        if let Exactness::Exact = word {
+            true
+        } else {
+            false
+        }
     } else {
         false
     }

@@ -29,7 +29,8 @@ fn place_of(input: f32) -> f32
 fn index_of(place: f32) -> usize
     ensures { λ r. ⌜ (r ≡ samples.index place) × (r ≤ 254) ⌝ }
 {
-    least(float::truncated(place) as usize, 254)
+    let t = float::truncated(place);
+    least(t.whole as usize, 254)
 }
 
 fn lookup(i: usize, fraction: f32) -> f32

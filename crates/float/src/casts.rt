@@ -1,9 +1,14 @@
 // Casts, and a number's size.
+use crate::Exactness;
+use crate::Truncation;
 ghost use mathlib.Core.Path.{_≡_};
 ghost use Prim.Native.Nat.{_-_, _*_, _/_, _^_, _<_};
-ghost use lib.Ieee.{toUnsigned};
+ghost use lib.Ieee.{binary32, ofBits, lt, toUnsigned};
+ghost use mathlib.Core.Bool.{true};
 ghost use Rattle.rounding.specs.Steps.{pattern, significand};
 ghost use Rattle.rounding.specs.Casts.{narrow, absolute};
+ghost use Rattle.float.specs.Truncating.{exactness};
+ghost use Rattle.float.specs.declared.Exactness.the-variants.{Cut};
 
 const SIGN: u64 = 0x8000_0000_0000_0000;
 
@@ -32,6 +37,9 @@ const HALF_SMALLEST: u64 = 873;
 const CUT: u64 = 926;
 
 const TWO_TO_64: f32 = 18446744073709551616.0;
+
+// From here on every `f32` is a whole number.
+const TWO_TO_24: u64 = 0x0100_0000;
 
 // From an `f64`'s bit pattern without its sign to an `f32`'s, which may lie past the infinity's.
 fn rounded(m: u64) -> u64
@@ -70,17 +78,45 @@ pub fn widened(x: f32) -> f64
     x as f64
 }
 
+// Whether x, of which n was given back, is n.
+fn word_of(x: f32, n: u64) -> Exactness
+    requires { ⌜ (n ≡ toUnsigned 64 x) × (lt x (ofBits binary32 0x5f80_0000) ≡ true) ⌝ }
+    ensures { λ r. ⌜ r ≡ exactness x ⌝ }
+{
+    if TWO_TO_24 <= n {
+        return Exactness::Exact;
+    }
+    if n as f32 == x {
+        Exactness::Exact
+    } else {
+        Exactness::Cut
+    }
+}
+
+fn cut(n: u64) -> Truncation
+    ensures { λ r. ⌜ (r .whole ≡ n) × (r .word ≡ Cut) ⌝ }
+{
+    Truncation {
+        whole: n,
+        word: Exactness::Cut,
+    }
+}
+
 // Toward zero; NaN and negatives give 0; at most 2 ^ 64 - 1.
-pub fn truncated(x: f32) -> u64
-    ensures { λ r. ⌜ r ≡ toUnsigned 64 x ⌝ }
+pub fn truncated(x: f32) -> Truncation
+    ensures { λ r. ⌜ (r .whole ≡ toUnsigned 64 x) × (r .word ≡ exactness x) ⌝ }
 {
     if -1.0 < x {
         if x < TWO_TO_64 {
-            return std::num::truncating_f32_to_u64(x);
+            let n = std::num::truncating_f32_to_u64(x);
+            return Truncation {
+                whole: n,
+                word: word_of(x, n),
+            };
         }
-        return 0xffff_ffff_ffff_ffff;
+        return cut(0xffff_ffff_ffff_ffff);
     }
-    0
+    cut(0)
 }
 
 // x without its sign.

@@ -20,6 +20,29 @@ ghost use mathlib.Core.Path.{_≡_};
 ghost use lib.Ieee.{binary32, binary64};
 ghost use Rattle.rounding.specs.Fma.{fma};
 ghost use Rattle.root.specs.Root as Root;
+ghost use Rattle.float.specs.Truncating as truncating;
+
+// What truncation says of the number that it took: that it is the whole number given back, or that something was
+// thrown away.
+pub enum Exactness {
+    Exact,
+    Cut,
+}
+
+pub struct Truncation {
+    pub whole: u64,
+    pub word: Exactness,
+}
+
+// The word as a host has it.
+pub fn word_number(w: Exactness) -> u32
+    ensures { λ n. ⌜ n ≡ truncating.number w ⌝ }
+{
+    match w {
+        Exactness::Exact => 1,
+        Exactness::Cut => 2,
+    }
+}
 
 // a * b + c, the product exact and one rounding.
 pub fn fma32(a: f32, b: f32, c: f32) -> f32

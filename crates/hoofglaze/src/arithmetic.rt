@@ -4,6 +4,7 @@ ghost use mathlib.Core.Path.{_≡_};
 ghost use lib.Ieee.{binary32, binary64, ofBits, toBits, toUnsigned};
 ghost use Rattle.rounding.specs.Fma.{fma};
 ghost use Rattle.rounding.specs.Casts.{narrow, absolute};
+ghost use Rattle.float.specs.Truncating.{exactness, number};
 ghost use Rattle.root.specs.Root.{root};
 
 #[no_mangle]
@@ -41,11 +42,22 @@ pub extern "C" fn hoofglaze_size64(x: f64) -> f64
     float::size64(x)
 }
 
+#[repr(C)]
+pub struct TruncationNumbered {
+    pub whole: u64,
+    pub word: u32,
+}
+
 #[no_mangle]
-pub extern "C" fn hoofglaze_truncated(x: f32) -> u64
-    ensures { λ r. ⌜ r ≡ toUnsigned 64 x ⌝ }
+pub extern "C" fn hoofglaze_truncated(x: f32) -> TruncationNumbered
+    ensures { λ r. ⌜ (r .whole ≡ toUnsigned 64 x) × (r .word ≡ number (exactness x)) ⌝ }
 {
-    float::truncated(x)
+    let t = float::truncated(x);
+    let word = t.word;
+    TruncationNumbered {
+        whole: t.whole,
+        word: float::word_number(word),
+    }
 }
 
 #[no_mangle]

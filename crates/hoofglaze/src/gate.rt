@@ -2,6 +2,8 @@
 use answer::Decibels;
 use answer::Factor;
 use answer::Numbered;
+use noise_gate::Adjusted;
+use noise_gate::Adjustment;
 use noise_gate::Answered;
 use noise_gate::Gate;
 use noise_gate::Passage;
@@ -9,7 +11,7 @@ use noise_gate::Passed;
 use noise_gate::Ran;
 use noise_gate::Setting;
 ghost use mathlib.Core.Path.{_≡_};
-ghost use Rattle.noise_gate.specs.Answers.{toldBlock};
+ghost use Rattle.noise_gate.specs.Answers.{toldSet, toldBlock};
 ghost use Rattle.noise_gate.specs.Calls as calls;
 ghost use Rattle.noise_gate_settings.specs.declared.Setting.the-variants.{Threshold, Ratio, Attack, Release, Hold};
 ghost use Rattle.answer.specs.Crossing.{toldIn};
@@ -37,6 +39,16 @@ fn passed(a: Passage) -> Numbered
     }
 }
 
+fn adjusted(a: Adjustment) -> Numbered
+    ensures { λ r. ⌜ r ≡ crossing.adjusted a ⌝ }
+{
+    match a {
+        Adjustment::Done => answer::of_done(0, 0.0),
+        Adjustment::Held(h) => answer::of_hold(h),
+        Adjustment::Refused(r) => answer::of_refusal(r),
+    }
+}
+
 fn crossed(a: Answered) -> GateAnswered
     ensures { λ r. ⌜ toldIn (r .gate) (r .answer) ≡ told (a .gate) (a .answer) ⌝ }
 {
@@ -45,6 +57,17 @@ fn crossed(a: Answered) -> GateAnswered
     GateAnswered {
         gate: state,
         answer: answer::of_answer(answer),
+    }
+}
+
+fn set(a: Adjusted) -> GateAnswered
+    ensures { λ r. ⌜ toldIn (r .gate) (r .answer) ≡ toldSet (a .gate) (a .answer) ⌝ }
+{
+    let state = a.gate;
+    let answer = a.answer;
+    GateAnswered {
+        gate: state,
+        answer: adjusted(answer),
     }
 }
 
@@ -62,7 +85,7 @@ fn ran(a: Ran) -> GateAnswered
 fn set_typed(g: Gate, t: Setting) -> GateAnswered
     ensures { λ r. ⌜ toldIn (r .gate) (r .answer) ≡ calls.setTyped g t ⌝ }
 {
-    crossed(noise_gate::set_typed(g, t))
+    set(noise_gate::set_typed(g, t))
 }
 
 #[no_mangle]
@@ -76,7 +99,7 @@ pub extern "C" fn hoofglaze_gate_make(rate: f32, rising: f32, falling: f32) -> G
 pub extern "C" fn hoofglaze_gate_set(g: Gate, name: &[u8], value: f32, worked: f32) -> GateAnswered
     ensures { λ r. ⌜ toldIn (r .gate) (r .answer) ≡ calls.set g (now (name .entry)) value worked ⌝ }
 {
-    crossed(noise_gate::set(g, name, value, worked))
+    set(noise_gate::set(g, name, value, worked))
 }
 
 #[no_mangle]

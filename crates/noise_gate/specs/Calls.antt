@@ -8,12 +8,13 @@ use lib.ListN.{length}
 use lib.Ieee.{Float}
 use Rattle.answer.specs.Figures.{f32, nought, one}
 use Rattle.answer.specs.Checks.{isRate, isSmoothing}
-use Rattle.answer.specs.Told.{Told, refused, done, doneWith, unless, whereDone}
+use Rattle.answer.specs.Told.{Told, refused, done, doneWith, doneHold, unless, whereDone}
+use Rattle.float.specs.Truncating as truncating
 use Rattle.answer.specs.Blocks.{checkedBlock}
 use Rattle.answer.specs.declared.Refusal.the-variants.{NoSetting, OutOfRange, BadWorkedNumber, BadRate, LengthsDiffer, BadState}
 use Rattle.fold.specs.Fold.{stateAfter, outAfter, countAfter}
 use Rattle.noise_gate.specs.Figures.{madeHold}
-use Rattle.noise_gate_sample.specs.Step.{aim, output, next}
+use Rattle.noise_gate_sample.specs.Step.{held, aim, output, next}
 use Rattle.noise_gate_settings.specs.Ranges.{inItsRange, worked, withSetting}
 use Rattle.noise_gate.specs.Bounds.{acceptable}
 use Rattle.noise_gate_settings.specs.Names.{named, kept}
@@ -21,6 +22,7 @@ use Rattle.noise_gate_settings.specs.declared.Settings.{Settings}
 use Rattle.noise_gate_sample.specs.declared.Registers.{Registers}
 use Rattle.noise_gate.specs.declared.Gate.{Gate}
 use Rattle.noise_gate_settings.specs.declared.Setting.{Setting}
+use Rattle.noise_gate_settings.specs.declared.Setting.the-variants.{Threshold, Ratio, Attack, Release, Hold}
 use Rattle.noise_gate_settings.specs.declared.Named.{Named}
 use Rattle.noise_gate_settings.specs.declared.Named.the-variants.{Known, Unknown}
 
@@ -67,13 +69,21 @@ make rate rising falling =
     (unless (isSmoothing rising && isSmoothing falling) (refused unmade BadWorkedNumber)
     (done (gateOf (madeSettings rate rising falling) atRest)))
 
+-- ---- what a done setting tells of the settings s that it leaves: "exact" or "cut" of the hold, and H beside it; of any other neither
+abbrev pub holdTold : Settings → Setting → ℕ × ℕ
+holdTold s (Threshold d k) = (0, 0)
+holdTold s (Ratio r) = (0, 0)
+holdTold s (Attack t c) = (0, 0)
+holdTold s (Release t c) = (0, 0)
+holdTold s (Hold t) = (held s .whole, truncating.number (held s .word))
+
 -- ---- set, typed: 9, 3, 4; and by a name with its numbers: 9, 1, 3, 4
 unfoldable pub setTyped : Gate → Setting → Told Gate
 setTyped g t =
     unless (acceptable g) (refused g BadState)
     (unless (inItsRange t) (refused g OutOfRange)
     (unless (worked t) (refused g BadWorkedNumber)
-    (done (gateOf (withSetting (g .settings) t) (g .registers)))))
+    (let s = withSetting (g .settings) t in doneHold (gateOf s (g .registers)) (holdTold s t .0) (holdTold s t .1))))
 
 unfoldable pub setFound : Gate → Named → Told Gate
 setFound g (Known t) = setTyped g t

@@ -1,4 +1,6 @@
 // The gate's calls by value: make, set, read, reset, block. A refusal changes nothing.
+use crate::Adjusted;
+use crate::Adjustment;
 use crate::Answered;
 use crate::Gate;
 use crate::Passage;
@@ -22,7 +24,7 @@ ghost use mathlib.Core.Path.{_≡_};
 ghost use Rattle.answer.specs.Figures.{nought};
 ghost use Rattle.answer.specs.Told as Told;
 ghost use Rattle.answer.specs.Told.{told, toldRead};
-ghost use Rattle.noise_gate.specs.Answers.{toldBlock};
+ghost use Rattle.noise_gate.specs.Answers.{toldSet, toldBlock};
 ghost use Rattle.noise_gate.specs.Calls as Calls;
 
 // The hold of a made gate, in milliseconds.
@@ -118,34 +120,64 @@ pub fn make(rate: f32, rising: f32, falling: f32) -> Answered
     done(made_settings(rate, rising, falling), AT_REST)
 }
 
+fn set_refused(g: Gate, r: Refusal) -> Adjusted
+    ensures { λ a. ⌜ toldSet (a .gate) (a .answer) ≡ Told.refused g r ⌝ }
+{
+    Adjusted {
+        gate: g,
+        answer: Adjustment::Refused(r),
+    }
+}
+
+// The settings s that a done setting leaves: only the hold's has more to say.
+fn set_done(s: Settings, m: Registers, t: Setting) -> Adjusted
+    ensures { λ a. ⌜ toldSet (a .gate) (a .answer) ≡ Told.doneHold (Calls.gateOf s m) (Calls.holdTold s t .0) (Calls.holdTold s t .1) ⌝ }
+{
+    let gate = Gate {
+        settings: s,
+        registers: m,
+    };
+    if let Setting::Hold(_) = t {
+        return Adjusted {
+            gate: gate,
+            answer: Adjustment::Held(noise_gate_sample::held(s)),
+        };
+    }
+    Adjusted {
+        gate: gate,
+        answer: Adjustment::Done,
+    }
+}
+
 // A typed setting: 9, 3, 4.
-pub fn set_typed(g: Gate, t: Setting) -> Answered
-    ensures { λ r. ⌜ told (r .gate) (r .answer) ≡ Calls.setTyped g t ⌝ }
+pub fn set_typed(g: Gate, t: Setting) -> Adjusted
+    ensures { λ r. ⌜ toldSet (r .gate) (r .answer) ≡ Calls.setTyped g t ⌝ }
 {
     if !bounds::acceptable(g) {
-        return refused(g, Refusal::BadState);
+        return set_refused(g, Refusal::BadState);
     }
     if !noise_gate_settings::in_its_range(t) {
-        return refused(g, Refusal::OutOfRange);
+        return set_refused(g, Refusal::OutOfRange);
     }
     if !noise_gate_settings::worked(t) {
-        return refused(g, Refusal::BadWorkedNumber);
+        return set_refused(g, Refusal::BadWorkedNumber);
     }
-    done(
+    set_done(
         noise_gate_settings::with_setting(g.settings, t),
         g.registers,
+        t,
     )
 }
 
 // A setting by its name, with a value and a worked number: 9, 1, 3, 4.
-pub fn set(g: Gate, name: &[u8], value: f32, number: f32) -> Answered
-    ensures { λ r. ⌜ told (r .gate) (r .answer) ≡ Calls.set g (now (name .entry)) value number ⌝ }
+pub fn set(g: Gate, name: &[u8], value: f32, number: f32) -> Adjusted
+    ensures { λ r. ⌜ toldSet (r .gate) (r .answer) ≡ Calls.set g (now (name .entry)) value number ⌝ }
 {
     if !bounds::acceptable(g) {
-        return refused(g, Refusal::BadState);
+        return set_refused(g, Refusal::BadState);
     }
     let Named::Known(t) = noise_gate_settings::find(name, value, number) else {
-        return refused(g, Refusal::NoSetting);
+        return set_refused(g, Refusal::NoSetting);
     };
     set_typed(g, t)
 }

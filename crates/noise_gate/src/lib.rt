@@ -13,6 +13,7 @@ pub use calls::read;
 pub use calls::reset;
 pub use calls::set;
 pub use calls::set_typed;
+use float::Truncation;
 use noise_gate_sample::Registers;
 pub use noise_gate_settings::Setting;
 use noise_gate_settings::Settings;
@@ -35,9 +36,21 @@ pub enum Passage {
     Refused(Refusal),
 }
 
+// What a setting answers: of the hold, its samples and the word of their truncation.
+pub enum Adjustment {
+    Done,
+    Held(Truncation),
+    Refused(Refusal),
+}
+
 pub struct Answered {
     pub gate: Gate,
     pub answer: Answer,
+}
+
+pub struct Adjusted {
+    pub gate: Gate,
+    pub answer: Adjustment,
 }
 
 pub struct Ran {

@@ -5,6 +5,8 @@ use mathlib.Core.Bool.{Bool, _||_, cond}
 use lib.Dec.{ltb}
 use lib.Ieee.{Float, binary32, lt, mul, sub, div, toUnsigned}
 use Rattle.rounding.specs.Fma.{fma}
+use Rattle.float.specs.Truncating.{exactness}
+use Rattle.float.specs.declared.Truncation.{Truncation}
 use Rattle.answer.specs.Figures.{f32, nought, one}
 use Rattle.common.specs.Follower.{toward, followed}
 use Rattle.noise_gate_sample.specs.Figures.{wideOpen}
@@ -12,9 +14,17 @@ use Rattle.noise_gate_settings.specs.declared.Settings.{Settings}
 use Rattle.noise_gate_sample.specs.declared.Registers.{Registers}
 use Rattle.noise_gate_sample.specs.declared.Stepped.{Stepped}
 
--- H: truncation of (hold*0.001)*rate, each product rounded
+-- (hold*0.001)*rate, each product rounded
+abbrev pub holdProduct : Settings → Float
+holdProduct s = mul binary32 (mul binary32 (s .hold) (f32 1 1000)) (s .rate)
+
+-- H: its truncation
 unfoldable pub holdSamples : Settings → ℕ
-holdSamples s = toUnsigned 64 (mul binary32 (mul binary32 (s .hold) (f32 1 1000)) (s .rate))
+holdSamples s = toUnsigned 64 (holdProduct s)
+
+-- H, and the word of the truncation: "exact" or "cut"
+unfoldable pub held : Settings → Truncation
+held s = record { whole = holdSamples s; word = exactness (holdProduct s) }
 
 -- g = 1/ratio and gain = fma(1-g, state, g); else 1
 unfoldable pub gainAt : Float → Float → Float

@@ -1,4 +1,5 @@
 // One sample of the noise gate, over any bits: what it moves and what it gives.
+use float::Truncation;
 use noise_gate_settings::Settings;
 ghost use Prim.Native.Nat.{_-_};
 ghost use lib.Dec.{ltb};
@@ -24,11 +25,18 @@ pub struct Stepped {
 // The state from which the gain is 1.
 const WIDE_OPEN: f32 = 0.999;
 
-// H: the hold in samples.
+// H, the hold in samples, and the word of its truncation.
+pub fn held(s: Settings) -> Truncation
+    ensures { λ r. ⌜ r ≡ Step.held s ⌝ }
+{
+    float::truncated(s.hold * 0.001 * s.rate)
+}
+
 fn hold_samples(s: Settings) -> u64
     ensures { λ r. ⌜ r ≡ Step.holdSamples s ⌝ }
 {
-    float::truncated(s.hold * 0.001 * s.rate)
+    let t = held(s);
+    t.whole
 }
 
 fn either(b: bool, x: f32, y: f32) -> f32

@@ -38,7 +38,8 @@ fn whole_size(most: u64, size: f32) -> u64
     requires { ⌜ (most ≤ 0x8000) × (lt size nought ≡ false) ⌝ }
     ensures { λ r. ⌜ r ≡ Samples.wholeSize most size ⌝ }
 {
-    let n = float::truncated(size);
+    let t = float::truncated(size);
+    let n = t.whole;
     if most <= n {
         return most;
     }

@@ -2,6 +2,7 @@
 -- Assumes nothing.
 mod Reached
 mod Apart
+mod Hold
 use mathlib.Core.Path.{_≡_, refl, sym, ap}
 use mathlib.Core.Bool.{false, _&&_}
 use Prim.Native.Nat.{ℕ}
@@ -22,18 +23,22 @@ use Rattle.noise_gate_settings.specs.declared.Setting.{Setting}
 use Rattle.noise_gate_settings.specs.declared.Named.{Named}
 use Rattle.noise_gate_settings.specs.declared.Named.the-variants.{Known, Unknown}
 use Rattle.noise_gate.specs.Bounds.{inBounds, acceptable}
-use Rattle.noise_gate.specs.Answers.{toldBlock}
+use Rattle.noise_gate.specs.Answers.{toldSet, toldBlock}
+use Rattle.float.proofs.Exactly.{words}
 use Rattle.noise_gate.specs.Calls as calls
 use Rattle.noise_gate.specs.Calls.{setTyped, setFound, readFound}
 use Rattle.noise_gate.specs.declared.Gate.{Gate}
+use Rattle.noise_gate.specs.declared.Adjustment.{Adjustment}
+use Rattle.noise_gate.specs.declared.Adjustment.the-variants as adjustment
 use Rattle.noise_gate.specs.declared.Passage.{Passage}
 use Rattle.noise_gate.specs.declared.Passage.the-variants.{Done, Refused}
 use Rattle.silence.specs.History.{carried}
 use Rattle.silence.proofs.Accepted.{accepts, accepted-hold}
 use Rattle.silence.proofs.Along.{along}
-use Rattle.promises.specs.NoiseGate.{Refusals, Unmade, Accepted, Exactly, OneWay, Answers}
+use Rattle.promises.specs.NoiseGate.{Refusals, Unmade, Accepted, Exactly, OneWay, HoldTold, Answers}
 use Rattle.promises.proofs.NoiseGate.Reached.{reached-settable, settable-reached}
 use Rattle.promises.proofs.NoiseGate.Apart.{typed-apart, named-apart}
+use Rattle.promises.proofs.NoiseGate.Hold.{hold-said, hold-named, tells}
 
 -- ---- refusals: each call is a chain of tests
 module _ (g : Gate) where
@@ -99,8 +104,27 @@ exactly = record {
 pub one-way : OneWay
 one-way = record { set-typed = typed-apart; set = named-apart }
 
+-- ---- the hold
+pub hold-told : HoldTold
+hold-told = record { typed = hold-said; by-name = hold-named; only = λ g c. tells g c .1; neither = λ g c. tells g c .0 }
+
 -- ---- answers
 module _ {g h : Gate} where
+  setting-back : (a b : Adjustment) → toldSet g a ≡ toldSet h b → (g ≡ h) × (a ≡ b)
+  setting-back adjustment.Done adjustment.Done e = (ap (λ (t : Told Gate). t .state) e, refl)
+  setting-back adjustment.Done (adjustment.Held k) e = absurd (words .never-nought (k .word) (sym (ap (λ (t : Told Gate). t .word) e)))
+  setting-back adjustment.Done (adjustment.Refused r) e = absurd (never-nought r (ap (λ (t : Told Gate). t .number) e))
+  setting-back (adjustment.Held k) adjustment.Done e = absurd (words .never-nought (k .word) (ap (λ (t : Told Gate). t .word) e))
+  setting-back (adjustment.Held k) (adjustment.Held l) e =
+      let whole : k .whole ≡ l .whole = ap (λ (t : Told Gate). t .samples) e in
+      let word = words .apart (k .word) (l .word) (ap (λ (t : Told Gate). t .word) e) in
+      (ap (λ (t : Told Gate). t .state) e, ap adjustment.Held (rw (← whole, ← word)))
+  setting-back (adjustment.Held k) (adjustment.Refused r) e = absurd (never-nought r (ap (λ (t : Told Gate). t .number) e))
+  setting-back (adjustment.Refused q) adjustment.Done e = absurd (never-nought q (sym (ap (λ (t : Told Gate). t .number) e)))
+  setting-back (adjustment.Refused q) (adjustment.Held k) e = absurd (never-nought q (sym (ap (λ (t : Told Gate). t .number) e)))
+  setting-back (adjustment.Refused q) (adjustment.Refused r) e =
+      (ap (λ (t : Told Gate). t .state) e, ap adjustment.Refused (one-to-one q r (ap (λ (t : Told Gate). t .number) e) (ap (λ (t : Told Gate). t .place) e)))
+
   passage-back : (a b : Passage) → toldBlock g a ≡ toldBlock h b → (g ≡ h) × (a ≡ b)
   passage-back (Done p) (Done q) e = (ap (λ (t : Told Gate). t .state) e, ap (λ (n : ℕ). Done (record { count = n })) (ap (λ (t : Told Gate). t .count) e))
   passage-back (Done p) (Refused r) e = absurd (never-nought r (ap (λ (t : Told Gate). t .number) e))
@@ -111,6 +135,7 @@ module _ {g h : Gate} where
 pub answers : Answers
 answers = record {
   answer = λ g h. answer-back;
+  setting = λ g h. setting-back;
   reading = λ g h. reading-back;
   passage = λ g h. passage-back;
 }

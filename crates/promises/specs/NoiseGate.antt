@@ -2,27 +2,31 @@
 -- Assumes nothing.
 use mathlib.Core.Path.{_≡_}
 use mathlib.Core.Logic.{_↔_}
+use mathlib.Core.Bool.{true, not}
 use mathlib.Core.List.{List, [], _∷_}
 use Prim.Native.Nat.{ℕ, _≤_}
 use lib.Dec.{T}
-use lib.Ieee.{Float}
+use lib.Ieee.{Float, eq}
+use Rattle.float.specs.Truncating.{itself}
 use Rattle.answer.specs.Names.{bytes}
-use Rattle.answer.specs.Told.{refused, told, toldRead, Unchanged}
+use Rattle.answer.specs.Told.{Told, refused, told, toldRead, Unchanged}
 use Rattle.answer.specs.Blocks.{BlockUnchanged}
 use Rattle.answer.specs.declared.Answer.{Answer}
 use Rattle.answer.specs.declared.Reading.{Reading}
 use Rattle.answer.specs.declared.Refusal.the-variants.{BadState}
-use Rattle.noise_gate_sample.specs.Step.{holdSamples}
+use Rattle.noise_gate_sample.specs.Step.{holdProduct, holdSamples, loud, counter}
+use Rattle.noise_gate_sample.specs.declared.Registers.{Registers}
 use Rattle.noise_gate_settings.specs.declared.Settings.{Settings}
 use Rattle.noise_gate_settings.specs.declared.Setting.{Setting}
-use Rattle.noise_gate_settings.specs.declared.Setting.the-variants.{Threshold}
+use Rattle.noise_gate_settings.specs.declared.Setting.the-variants.{Threshold, Hold}
 use Rattle.noise_gate.specs.Figures.{longestCount}
 use Rattle.noise_gate.specs.Bounds.{inBounds, acceptable}
-use Rattle.noise_gate.specs.Answers.{toldBlock}
+use Rattle.noise_gate.specs.Answers.{toldSet, toldBlock}
 use Rattle.noise_gate.specs.Calls as calls
 use Rattle.noise_gate.specs.declared.Gate.{Gate}
+use Rattle.noise_gate.specs.declared.Adjustment.{Adjustment}
 use Rattle.noise_gate.specs.declared.Passage.{Passage}
-use Rattle.silence.specs.History.{Call, carried, allF32, InF32, SettingsF32}
+use Rattle.silence.specs.History.{Call, answered, carried, allF32, InF32, SettingsF32}
 
 -- "No refusal changes a state or an output buffer."
 pub record Refusals : Type 0 where
@@ -68,8 +72,24 @@ pub record OneWay : Type 0 where
       → calls.setTyped h (Threshold (record { 0 = z }) (record { 0 = x })) .number ≡ 0 → ⊥
   pub set : (g h : Gate) (x y z : Float) → calls.set g (bytes "threshold") x y .number ≡ 0 → calls.set h (bytes "threshold") z x .number ≡ 0 → ⊥
 
+-- ---- document 02's W9: "The hold setting's answer passes this on as "exact" or "cut", so the page can show the trainer the samples she gets". What a done hold setting tells:
+pub record HoldSaid (t : Told Gate) : Type 0 where
+  -- the samples, to which the counter is set by whatever sample is loud from then on
+  pub samples : (m : Registers) (x : Float) → loud (t .state .settings) m x ≡ true → counter (t .state .settings) m x ≡ t .samples
+  -- the word: 1, "exact", where they equal (hold*0.001)*rate, each product rounded, and else 2, "cut"
+  pub exact : (t .word ≡ 1) ↔ T (eq (itself (t .samples)) (holdProduct (t .state .settings)))
+  pub cut : (t .word ≡ 2) ↔ T (not (eq (itself (t .samples)) (holdProduct (t .state .settings))))
+
+pub record HoldTold : Type 0 where
+  pub typed : (g : Gate) (ms : Float) → calls.setTyped g (Hold ms) .number ≡ 0 → HoldSaid (calls.setTyped g (Hold ms))
+  pub by-name : (g : Gate) (ms w : Float) → calls.set g (bytes "hold") ms w ≡ calls.setTyped g (Hold ms)
+  -- a call that tells a word is done, and tells what setting the hold that its gate then has tells; one that tells none tells no samples either
+  pub only : (g : Gate) (c : Call) → (answered g c .word ≡ 0 → ⊥) → (answered g c .number ≡ 0) × (answered g c ≡ calls.setTyped g (Hold (answered g c .state .settings .hold)))
+  pub neither : (g : Gate) (c : Call) → answered g c .word ≡ 0 → answered g c .samples ≡ 0
+
 -- no two answers tell the same: what a call tells gives its gate and its answer back
 pub record Answers : Type 0 where
   pub answer : (g h : Gate) (a b : Answer) → told g a ≡ told h b → (g ≡ h) × (a ≡ b)
+  pub setting : (g h : Gate) (a b : Adjustment) → toldSet g a ≡ toldSet h b → (g ≡ h) × (a ≡ b)
   pub reading : (g h : Gate) (a b : Reading) → toldRead g a ≡ toldRead h b → (g ≡ h) × (a ≡ b)
   pub passage : (g h : Gate) (a b : Passage) → toldBlock g a ≡ toldBlock h b → (g ≡ h) × (a ≡ b)

@@ -13,7 +13,7 @@ least-requires c κs = search needs
 
 returns : tie.Need-returns
 unfolding index
-returns c = (rw (c .least .ensures, c .before .truncated .ensures), omega arith)
+returns c = (rw (c .least .ensures, c .before .truncated .ensures .0), omega arith)
 
 pub index-of-spec : {M : Type 1} → statement M
 index-of-spec = tie.close (tie.spec truncated-requires least-requires returns)

@@ -7,11 +7,11 @@ use Rattle.hoofglaze.proofs.gate.set_typed.Tie as tie
 set-typed-requires : tie.Need-set-typed-requires
 set-typed-requires c κs = search needs
 
-crossed-requires : tie.Need-crossed-requires
-crossed-requires c κs = search needs
+set-requires : tie.Need-set-requires
+set-requires c κs = search needs
 
 returns : tie.Need-returns
-returns c = c .crossed .ensures ∙ c .before .set-typed .ensures
+returns c = c .set .ensures ∙ c .before .set-typed .ensures
 
 pub set-typed-spec : {M : Type 1} → statement M
-set-typed-spec = tie.close (tie.spec set-typed-requires crossed-requires returns)
+set-typed-spec = tie.close (tie.spec set-typed-requires set-requires returns)

@@ -9,12 +9,12 @@ use Rattle.noise_gate.proofs.calls.set.Tie as tie
 acceptable-requires : tie.Need-acceptable-requires
 acceptable-requires c κs = search needs
 
-refused-requires : tie.Need-refused-requires
-refused-requires c κs = search needs
+set-refused-requires : tie.Need-set-refused-requires
+set-refused-requires c κs = search needs
 
 returns : tie.Need-returns
 unfolding set
-returns c = c .refused .ensures ∙ rw (sym (c .before .before .acceptable .ensures) ∙ not-true _ (c .before .if1 .taken))
+returns c = c .set-refused .ensures ∙ rw (sym (c .before .before .acceptable .ensures) ∙ not-true _ (c .before .if1 .taken))
 
 find-requires : tie.Need-find-requires
 find-requires c κs = search needs
@@ -25,8 +25,8 @@ enum-known-t c = search needs
 enum-told : tie.Need-enum-told
 enum-told c = search needs
 
-refused-requires-2 : tie.Need-refused-requires-2
-refused-requires-2 c κs = search needs
+set-refused-requires-2 : tie.Need-set-refused-requires-2
+set-refused-requires-2 c κs = search needs
 
 returns-2 : tie.Need-returns-2
 unfolding set setFound
@@ -34,7 +34,7 @@ returns-2 c =
     let unknown = c .before in
     let found = unknown .before .before in
     let accepted = found .before in
-    c .refused2 .ensures ∙ rw (sym (accepted .before .acceptable .ensures) ∙ not-false _ (accepted .if1 .left), sym (found .find .ensures) ∙ unknown .enum-told .given .1)
+    c .set-refused2 .ensures ∙ rw (sym (accepted .before .acceptable .ensures) ∙ not-false _ (accepted .if1 .left), sym (found .find .ensures) ∙ unknown .enum-told .given .1)
 
 set-typed-requires : tie.Need-set-typed-requires
 set-typed-requires c κs = search needs
@@ -52,12 +52,12 @@ set-spec =
     tie.close
     (tie.spec
     acceptable-requires
-    refused-requires
+    set-refused-requires
     returns
     find-requires
     enum-known-t
     enum-told
-    refused-requires-2
+    set-refused-requires-2
     returns-2
     set-typed-requires
     returns-3)
