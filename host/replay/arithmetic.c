@@ -8,13 +8,14 @@ static uint64_t float_answer(uint8_t operation, const float x[3], const double u
     case 1: return bytes32(hoofglaze_fma32(x[0], x[1], x[2]));
     case 2: return bytes64(hoofglaze_fma64(u[0], u[1], u[2]));
     case 3: return bytes32(hoofglaze_narrowed(u[0]));
-    case 4: return hoofglaze_truncated(x[0]);
+    case 4: return hoofglaze_truncated(x[0]).whole;
     case 5: return bytes64(hoofglaze_widened(x[0]));
     case 6: return bytes32(hoofglaze_size32(x[0]));
     case 7: return bytes64(hoofglaze_size64(u[0]));
     case 8: return hoofglaze_bits32(hoofglaze_from_bits32((uint32_t)bits));
     case 9: return hoofglaze_bits64(hoofglaze_from_bits64(bits));
     case 10: return bytes32(hoofglaze_root32(x[0]));
+    case 11: return hoofglaze_truncated(x[0]).word;
     default: return UINT64_MAX;
     }
 }

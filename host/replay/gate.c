@@ -58,6 +58,8 @@ static void tell(hoofglaze_answer a)
     give(&a.value, 4);
     give(&place, 8);
     give(&count, 8);
+    give(&a.word, 4);
+    give(&a.samples, 8);
     give_floats(&kept.settings, sizeof kept.settings / 4);
     give_floats(&kept.registers, 2);
     give(&kept.registers.counter, 8);

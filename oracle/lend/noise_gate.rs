@@ -54,4 +54,9 @@ impl NoiseGateStage {
     pub fn hold_samples(&self) -> usize {
         self.get_hold_samples()
     }
+
+    /// What `get_hold_samples` truncates.
+    pub fn hold_product(&self) -> f32 {
+        (self.hold_ms * 0.001) * self.sample_rate
+    }
 }

@@ -40,14 +40,10 @@ pub fn of_hold(t: Truncation) -> Numbered
     ensures { λ n. ⌜ n ≡ crossing.ofHold t ⌝ }
 {
     let word = t.word;
-    Numbered {
-        number: 0,
-        value: 0.0,
-        place: 0,
-        count: 0,
-        samples: t.whole,
-        word: float::word_number(word),
-    }
+    let mut n = of_done(0, 0.0);
+    n.samples = t.whole;
+    n.word = float::word_number(word);
+    n
 }
 
 pub fn of_answer(a: Answer) -> Numbered

@@ -1,6 +1,6 @@
 //! A stage carried through calls, by document 01 and by the Rust, which must say the same.
 use super::{
-    Call, Rules, Rust,
+    Call, HoldTold, Rules, Rust,
     number::{self, Number, Taker, singles},
 };
 use crate::{
@@ -9,13 +9,15 @@ use crate::{
     replay::{AIM_BEFORE, BEFORE, NO_CALL},
 };
 
-/// What a call tells: document 01's number, value, place and open count, and what stands behind them.
+/// What a call tells: document 01's number, value, place and open count, document 02's word of a hold, and what stands
+/// behind them.
 #[derive(Default)]
 pub struct Told {
     pub number: u32,
     pub value: f32,
     pub place: u64,
     pub count: u64,
+    pub hold: HoldTold,
     pub behind: Vec<Number>,
 }
 
@@ -102,9 +104,16 @@ impl<S: Rules> Held<S> {
             }
         }
         rust.lend(&state);
+        let hold = match number {
+            0 => hold_told(name, &state, rust)?,
+            _ => HoldTold::default(),
+        };
         self.state = state;
         self.agrees()?;
-        Ok(Told::refused(number))
+        Ok(Told {
+            hold,
+            ..Told::refused(number)
+        })
     }
 
     fn read(&mut self, name: &[u8]) -> Result<Told, String> {
@@ -214,5 +223,17 @@ impl<S: Rules> Held<S> {
         } else {
             Err(format!("{:?}, the Rust {held:?}", self.state))
         }
+    }
+}
+
+/// What a done setting tells of a hold, on which document 02 and the Rust must agree.
+pub fn hold_told<S: Rules>(name: &[u8], state: &S, rust: &S::Rust) -> Result<HoldTold, String> {
+    let [told, by_rust] = [state.hold_told(name), rust.hold_told(name)];
+    if told == by_rust {
+        Ok(told)
+    } else {
+        Err(format!(
+            "setting {name:?} tells {told:?}, the Rust {by_rust:?}, of {state:?}"
+        ))
     }
 }

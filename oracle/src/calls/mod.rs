@@ -11,12 +11,13 @@ pub mod number;
 mod session;
 
 use crate::{
+    exact::{CUT, EXACT},
     random::Random,
     replay::{Counts, Replay, answered},
 };
 pub use call::Call;
 use held::Held;
-pub use held::Told;
+pub use held::{Told, hold_told};
 pub use list::List;
 use number::{Number, Taker};
 use rustortion_core::amp::stages::Stage;
@@ -27,6 +28,13 @@ use std::{fmt::Debug, marker::PhantomData};
 pub struct Seen {
     pub open: bool,
     pub level: u64,
+}
+
+/// What a hold that was set tells: its truncation's word, and H, the hold in samples. All else tells 0 and 0.
+#[derive(Clone, Copy, Debug, Default, PartialEq, Eq)]
+pub struct HoldTold {
+    pub word: u32,
+    pub samples: u64,
 }
 
 /// A stage's state as document 01 has it, a leveller's as document 02, and what each call does to it. A refusal is its
@@ -44,6 +52,11 @@ pub trait Rules: Clone + Debug + Default {
 
     /// Sets on a state that 9 accepts.
     fn set(&self, name: &[u8], value: f32, worked: Taker) -> Result<Self, u32>;
+
+    /// What a setting of this name tells of a hold, on the state that it gave. The gate's alone tells anything.
+    fn hold_told(&self, _name: &[u8]) -> HoldTold {
+        HoldTold::default()
+    }
 
     /// Reads from a state that 9 accepts.
     fn read(&self, name: &[u8]) -> Result<f32, u32>;
@@ -74,6 +87,11 @@ pub trait Rust<S> {
 
     /// The numbers and registers that the Rust has, in the places of the state's own.
     fn held(&self, state: &S) -> S;
+
+    /// What a setting of this name tells of a hold, by the numbers that the Rust has.
+    fn hold_told(&self, _name: &[u8]) -> HoldTold {
+        HoldTold::default()
+    }
 
     /// Whether of the documents and the Rust one takes this value of a setting and the other refuses it.
     fn takes_otherwise(_name: &[u8], _value: f32) -> bool {
@@ -218,6 +236,11 @@ impl<S: Listed> Replay for Called<S> {
             *counts.entry(answered(told.number)).or_default() += 1;
             if let (Call::Block(input, _) | Call::Record(input, ..), 0) = (&call, told.number) {
                 *counts.entry("samples of done blocks").or_default() += input.len() as u64;
+            }
+            match told.hold.word {
+                EXACT => *counts.entry("holds set, exact").or_default() += 1,
+                CUT => *counts.entry("holds set, cut").or_default() += 1,
+                _ => {}
             }
         }
         counts

@@ -1,6 +1,6 @@
 //! Document 01's "IEEE 754 arithmetic" over whole numbers, with no float in it: a value is a whole
 //! number of a format's smallest one, a sum is taken whole, and one function rounds, once, for every
-//! width. It judges beside the Rust, and decides over it. A root is document 02's, by squares.
+//! width. It judges beside the Rust, and decides over it. A root is document 02's, by squares; so is a truncation's word.
 mod root;
 mod whole;
 
@@ -24,6 +24,10 @@ pub const BINARY64: Format = Format {
     fraction: 52,
     exponent: 11,
 };
+
+/// The words of a truncation.
+pub const EXACT: u32 = 1;
+pub const CUT: u32 = 2;
 
 /// What a bit pattern stands for.
 enum Value {
@@ -234,6 +238,23 @@ pub fn truncated(format: Format, bits: u64) -> u64 {
     }
 }
 
+/// Whether truncation throws anything away: exact of a zero of either sign and of a whole number above it that 64 digits
+/// hold; else cut.
+pub fn exactness(format: Format, bits: u64) -> u32 {
+    match format.value(bits) {
+        Value::Finite(value) if !value.negative || value.digits == 0 => {
+            let size = Whole::shifted(value.digits.into(), value.shift);
+            let too_long = size.length() > format.depth() + u64::BITS;
+            if too_long || size.any_below(format.depth()) {
+                CUT
+            } else {
+                EXACT
+            }
+        }
+        _ => CUT,
+    }
+}
+
 /// The size of a number.
 pub fn size(format: Format, bits: u64) -> u64 {
     settled(format, bits) & (format.sign() - 1)
@@ -265,6 +286,56 @@ mod tests {
         ];
         for [a, b, c, answer] in rows {
             assert_eq!(fma(BINARY32, a, b, c), answer, "{a:08x} {b:08x} {c:08x}");
+        }
+    }
+
+    #[test]
+    fn exact_by_hand() {
+        let exact = [
+            (0x0000_0000, 0),
+            (0x8000_0000, 0),
+            (0x3f80_0000, 1),
+            (0x4516_0000, 2_400),
+            (0x4b00_0001, (1 << 23) + 1),
+            (0x4b80_0000, 1 << 24),
+            (0x4b80_0001, (1 << 24) + 2),
+            (0x5f00_0000, 1 << 63),
+            (0x5f7f_ffff, u64::MAX - (1 << 40) + 1),
+        ];
+        for (bits, whole) in exact {
+            assert_eq!(truncated(BINARY32, bits), whole, "{bits:08x}");
+            assert_eq!(exactness(BINARY32, bits), EXACT, "{bits:08x}");
+        }
+    }
+
+    /// The smallest number, 1/4 and what is next to 1; 3.0000002, which 1/16 ms are at 48,000 Hz; 2^22 and a half, and
+    /// what is next to 2^23; -1/4, -1 and -2^24; 2^64 and more; infinities, NaNs.
+    #[test]
+    fn cut_by_hand() {
+        let cut = [
+            (0x0000_0001, 0),
+            (0x8000_0001, 0),
+            (0x3e80_0000, 0),
+            (0x3f7f_ffff, 0),
+            (0x3f80_0001, 1),
+            (0x4040_0001, 3),
+            (0x4a80_0001, 1 << 22),
+            (0x4aff_ffff, (1 << 23) - 1),
+            (0xbe80_0000, 0),
+            (0xbf80_0000, 0),
+            (0xcb80_0000, 0),
+            (0x5f80_0000, u64::MAX),
+            (0x5f80_0001, u64::MAX),
+            (0x7f7f_ffff, u64::MAX),
+            (0x7f80_0000, u64::MAX),
+            (0xff80_0000, 0),
+            (0x7fc0_0000, 0),
+            (0xffc0_0001, 0),
+            (0x7f80_0001, 0),
+        ];
+        for (bits, whole) in cut {
+            assert_eq!(truncated(BINARY32, bits), whole, "{bits:08x}");
+            assert_eq!(exactness(BINARY32, bits), CUT, "{bits:08x}");
         }
     }
 }

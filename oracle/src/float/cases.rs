@@ -1,13 +1,18 @@
 //! Lists of cases: the one that is stored, and new ones.
-use super::{Case, Operation, edge_list, edges, published, roots, singles, triples};
-use crate::{random::Random, shapes::specials};
+use super::{Case, Operation, edge_list, edges, published, roots, singles, triples, wholes};
+use crate::{exact::BINARY32, random::Random, shapes::specials};
 
-/// A case for a new list: half of the fused multiply-adds are at an edge of rounding.
+/// A case for a new list: half of the fused multiply-adds are at an edge of rounding, and truncations are of the numbers
+/// that their words are of.
 pub fn new(operation: Operation, random: &mut Random) -> Case {
     match operation {
         Operation::Fma32 | Operation::Fma64 if random.coin() => Case {
             operation,
             operands: random.pick(&edges::FAMILIES)(operation.format(), random),
+        },
+        Operation::Truncated => Case {
+            operation,
+            ..drawn(Operation::Exactness, random)
         },
         _ => drawn(operation, random),
     }
@@ -36,20 +41,21 @@ const fn stored_count(operation: Operation) -> usize {
         Operation::Fma32 | Operation::Fma64 => 20_500,
         Operation::Narrowed => 20_000,
         Operation::Truncated => 10_000,
-        Operation::Root32 => 4_000,
+        Operation::Root32 | Operation::Exactness => 4_000,
         _ => 2_000,
     }
 }
 
 /// The stored list: the published vectors, what can be listed whole, cases of the families up to the
-/// count, fused multiply-adds at edges of rounding, a record of each number that no operation has, and a record
-/// that ends too soon.
+/// count, fused multiply-adds at edges of rounding, a record of each number that no operation has, truncations with
+/// their words, and a record that ends too soon.
 pub fn stored() -> Vec<u8> {
     let mut random = Random::new(2);
     let mut list: Vec<u8> = published::vectors()
         .flat_map(|(case, _)| case.bytes())
         .collect();
-    for operation in Operation::ALL {
+    let all = Operation::ALL.into_iter();
+    for operation in all.filter(|&one| one != Operation::Exactness) {
         let mut cases = listed(operation, &mut random);
         while cases.len() < stored_count(operation) {
             cases.push(drawn(operation, &mut random));
@@ -61,8 +67,28 @@ pub fn stored() -> Vec<u8> {
         list.push(number);
         list.extend([0x55; 24]);
     }
+    list.extend(truncations().into_iter().flat_map(Case::bytes));
     list.extend(&[Operation::Fma32.number(); 24]);
     list
+}
+
+/// Both the whole number and its word of what can be listed whole, then words of the families up to the count; from a
+/// seed of their own, and behind all else, so that the rest of the list stays what it was.
+fn truncations() -> Vec<Case> {
+    let mut random = Random::new(5);
+    let listed = wholes::listed(BINARY32, &mut random);
+    let case = |operation| {
+        move |&a: &u64| Case {
+            operation,
+            operands: [a, 0, 0],
+        }
+    };
+    let mut words: Vec<Case> = listed.iter().map(case(Operation::Exactness)).collect();
+    while words.len() < stored_count(Operation::Exactness) {
+        words.push(drawn(Operation::Exactness, &mut random));
+    }
+    let truncated = listed.iter().map(case(Operation::Truncated));
+    truncated.chain(words).collect()
 }
 
 /// The cases of an operation that can be listed whole: its special values, and for a fused

@@ -10,12 +10,15 @@ mod published;
 mod roots;
 mod singles;
 mod triples;
+mod wholes;
 #[cfg(test)]
 mod wrong;
+#[cfg(test)]
+mod wrong_words;
 
 use crate::{
     bits::{bits32, bits64, double, single},
-    exact::{self, BINARY32, BINARY64, Format},
+    exact::{self, BINARY32, BINARY64, CUT, EXACT, Format},
     random::Random,
     replay::{Counts, Replay},
 };
@@ -32,10 +35,11 @@ pub enum Operation {
     Bits32,
     Bits64,
     Root32,
+    Exactness,
 }
 
 impl Operation {
-    const ALL: [Self; 10] = [
+    const ALL: [Self; 11] = [
         Self::Fma32,
         Self::Fma64,
         Self::Narrowed,
@@ -46,6 +50,7 @@ impl Operation {
         Self::Bits32,
         Self::Bits64,
         Self::Root32,
+        Self::Exactness,
     ];
 
     const fn number(self) -> u8 {
@@ -68,6 +73,7 @@ impl Operation {
             Self::Bits32 => "bits32",
             Self::Bits64 => "bits64",
             Self::Root32 => "root32",
+            Self::Exactness => "exactness",
         }
     }
 
@@ -92,10 +98,11 @@ impl Operation {
             Self::Bits32 => bits32(single(a)),
             Self::Bits64 => bits64(double(a)),
             Self::Root32 => bits32(single(a).sqrt()),
+            Self::Exactness => exactness(single(a)).into(),
         }
     }
 
-    /// What document 01 says, and of a root document 02.
+    /// What document 01 says, and of a root and of a truncation's word document 02.
     fn by_rule(self, operands: [u64; 3]) -> u64 {
         let format = self.format();
         let [a, b, c] = operands.map(|bits| bits & (format.sign() | (format.sign() - 1)));
@@ -107,7 +114,21 @@ impl Operation {
             Self::Size32 | Self::Size64 => exact::size(format, a),
             Self::Bits32 | Self::Bits64 => exact::settled(format, a),
             Self::Root32 => exact::root(format, a),
+            Self::Exactness => exact::exactness(BINARY32, a).into(),
         }
+    }
+}
+
+/// Whether the whole number that `as` gives is the number taken. They are compared as f64, which has every f32, and of what
+/// `as` gives all but 2^64-1.
+fn exactness(x: f32) -> u32 {
+    let whole = x as u64;
+    let double = whole as f64;
+    let is_kept = double as u128 == u128::from(whole);
+    if is_kept && double == f64::from(x) {
+        EXACT
+    } else {
+        CUT
     }
 }
 

@@ -1,5 +1,5 @@
 //! The operand of an operation that takes one, as bits, by what it tries.
-use super::{Operation, roots};
+use super::{Operation, roots, wholes};
 use crate::{
     exact::{BINARY32, BINARY64, Format},
     random::Random,
@@ -14,6 +14,7 @@ pub const fn families(operation: Operation) -> &'static [Family] {
         Operation::Narrowed => &[any_bits, in_single_range, at_half_a_step, at_largest_single],
         Operation::Truncated => &[any_bits, in_whole_range, at_whole_or_half, at_whole_border],
         Operation::Root32 => &roots::FAMILIES,
+        Operation::Exactness => &wholes::FAMILIES,
         _ => &[any_bits, any_normal, special, subnormal],
     }
 }
@@ -54,13 +55,13 @@ fn at_largest_single(format: Format, random: &mut Random) -> u64 {
 }
 
 /// An f32 from an eighth to past 2^64.
-fn in_whole_range(format: Format, random: &mut Random) -> u64 {
+pub fn in_whole_range(format: Format, random: &mut Random) -> u64 {
     let exponent = random.between(-3, 66);
     normal(format, exponent, random)
 }
 
 /// A whole number or one and a half, or an f32 next to it.
-fn at_whole_or_half(format: Format, random: &mut Random) -> u64 {
+pub fn at_whole_or_half(format: Format, random: &mut Random) -> u64 {
     let digits = random.between(1, i64::from(format.fraction) + 1) as u32;
     let power = random.pick(&[-1, 0]);
     let steps = random.between(-1, 1);
@@ -69,7 +70,7 @@ fn at_whole_or_half(format: Format, random: &mut Random) -> u64 {
 }
 
 /// A power of two, where whole numbers end among them, or an f32 next to it.
-fn at_whole_border(format: Format, random: &mut Random) -> u64 {
+pub fn at_whole_border(format: Format, random: &mut Random) -> u64 {
     let power = random.pick(&[-1, 0, 23, 24, 31, 32, 52, 53, 62, 63, 64, 64, 64, 65]);
     let steps = random.between(-3, 3);
     let value = scaled(format, 1, power, random);

@@ -122,6 +122,8 @@ fn read(head: &[u8]) -> (Call, &'static str) {
 pub fn answer(gate: &Gate, told: &Told) -> Vec<u8> {
     let mut numbers = vec![Number::Whole(told.number), Number::Single(told.value)];
     numbers.extend([told.place, told.count].map(Number::Long));
+    numbers.push(Number::Whole(told.hold.word));
+    numbers.push(Number::Long(told.hold.samples));
     numbers.extend(gate.numbers());
     numbers.extend(&told.behind);
     number::told(&numbers)

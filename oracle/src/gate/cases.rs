@@ -20,7 +20,7 @@ pub(super) const FORMER_HOLD: f32 = 50.0;
 
 /// The stored list: every refusal, every length, the borders; a made gate with nothing set but its hold; then
 /// sessions; a call of each number that no call has; the same again of blocks with a record; how long a made gate
-/// holds, and a kept one; and a call that ends too soon.
+/// holds, and a kept one; what a set hold tells; and a call that ends too soon.
 pub fn stored() -> Vec<u8> {
     let mut random = Random::new(4);
     let mut list = List::<Gate>::new(&mut random);
@@ -38,6 +38,7 @@ pub fn stored() -> Vec<u8> {
     list.bytes.extend([3; 64]);
     list.records();
     list.holds();
+    list.words();
     list.ends_too_soon();
     list.bytes
 }

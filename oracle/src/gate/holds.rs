@@ -6,11 +6,11 @@ use crate::{
 };
 
 /// A threshold below the loud sample; the made one, of factor 1, is above it.
-const HEARD: Setting = Setting::Threshold(-12.0, 0.25);
-const LOUD: f32 = 0.5;
+pub(super) const HEARD: Setting = Setting::Threshold(-12.0, 0.25);
+pub(super) const LOUD: f32 = 0.5;
 
 /// A gate made when made gates held 50 ms, its threshold set, some silence after a loud sample.
-const KEPT: Gate = Gate {
+pub(super) const KEPT: Gate = Gate {
     rate: 48_000.0,
     threshold: -12.0,
     factor: 0.25,

@@ -6,12 +6,15 @@ mod cases;
 mod holds;
 #[cfg(test)]
 mod needs;
+#[cfg(test)]
+mod needs_of_words;
 mod numbers;
 mod records;
 mod rules;
 mod rust;
 mod session;
 mod setting;
+mod words;
 
 use crate::{
     calls::{Call, Called, List, Listed, Told},
@@ -27,6 +30,7 @@ impl Listed for Gate {
     }
 
     fn session(list: &mut List<Self>) {
+        list.hold_session();
         if list.random.coin() {
             list.session();
         } else {

@@ -8,6 +8,10 @@ use crate::{
 };
 use std::collections::BTreeMap;
 
+/// The bytes of an answer without a block's output and aims, and where in them the state begins.
+const ANSWER: usize = 96;
+const STATE: usize = 36;
+
 /// The refusals that hold of a record, whatever their order, with 7 told apart by the buffer.
 fn refusals(gate: &Gate, input: &[f32], places: usize, aims: usize) -> Vec<&'static str> {
     let mut all = vec![
@@ -169,41 +173,48 @@ fn a_record_by_hand() {
         *b"\x0b\0\0\0\x06\0\0\0\x06\0\0\0\x06\0\0\0"
     );
     let answers = NoiseGate::NEW.answers(&calls).unwrap();
-    let recorded = &answers[2 * 84..];
+    let recorded = &answers[2 * ANSWER..];
     assert_eq!(
         recorded[..24],
         *b"\0\0\0\0\0\0\0\0\0\0\0\0\0\0\0\0\x03\0\0\0\0\0\0\0"
     );
-    assert_eq!(recorded[84 + 24..][..6], [0, 1, 1, 0, 0, 1]);
-    let refused = &recorded[84 + 30..];
+    assert_eq!(recorded[24..STATE], [0; 12]);
+    assert_eq!(recorded[ANSWER + 24..][..6], [0, 1, 1, 0, 0, 1]);
+    let refused = &recorded[ANSWER + 30..];
     assert_eq!(
         refused[..24],
         *b"\x07\0\0\0\0\0\0\0\0\0\0\0\0\0\0\0\0\0\0\0\0\0\0\0"
     );
-    assert_eq!(refused[24..84], recorded[24..84]);
-    assert_eq!(refused[84..93], *b"\0\0\x7a\xc4\0\0\x7a\xc4\xa5");
-    let last = &refused[93..];
-    assert_eq!(last[84 + 12..], [1, 0, 0]);
+    assert_eq!(refused[24..STATE], [0; 12]);
+    assert_eq!(refused[STATE..ANSWER], recorded[STATE..ANSWER]);
+    let behind = &refused[ANSWER..];
+    assert_eq!(behind[..9], *b"\0\0\x7a\xc4\0\0\x7a\xc4\xa5");
+    assert_eq!(behind[9 + ANSWER + 12..], [1, 0, 0]);
 }
 
-/// Each call of `holds` with its answer.
-fn held() -> Vec<(Call, Vec<u8>)> {
-    let mut random = Random::new(1);
-    let mut list = List::<Gate>::new(&mut random);
-    list.holds();
-    let answers = NoiseGate::NEW.answers(&list.bytes).unwrap();
+/// Each call of a list with its form and its answer.
+pub(super) fn answered(list: &[u8]) -> Vec<(Call, &'static str, Vec<u8>)> {
+    let answers = NoiseGate::NEW.answers(list).unwrap();
     let mut rest = &answers[..];
-    let answered = call::list(&list.bytes).map(|(call, _)| {
+    let answered = call::list(list).map(|(call, form)| {
         let behind = match &call {
             Call::Block(_, places) => 4 * places,
             Call::Record(_, places, aims) => 4 * places + aims,
             _ => 0,
         };
-        let (answer, others) = rest.split_at(84 + behind);
+        let (answer, others) = rest.split_at(ANSWER + behind);
         rest = others;
-        (call, answer.to_vec())
+        (call, form, answer.to_vec())
     });
     answered.collect()
+}
+
+/// Each call of `holds` with its answer.
+fn held() -> Vec<(Call, &'static str, Vec<u8>)> {
+    let mut random = Random::new(1);
+    let mut list = List::<Gate>::new(&mut random);
+    list.holds();
+    answered(&list.bytes)
 }
 
 /// By hand: 100 ms and 50 ms in samples, of gates made and kept, each by records and by blocks; what is left of a kept
@@ -211,8 +222,8 @@ fn held() -> Vec<(Call, Vec<u8>)> {
 #[test]
 fn a_made_gate_holds_100_ms_and_a_kept_one_50() {
     let (mut open, mut stretches, mut counters) = (0, Vec::new(), Vec::new());
-    for (call, answer) in held() {
-        let [count, counter] = [16, 76].map(|at| Taker(&answer[at..]).long());
+    for (call, _, answer) in held() {
+        let [count, counter] = [16, STATE + 52].map(|at| Taker(&answer[at..]).long());
         if count == 0 && open > 0 {
             stretches.push(open);
             open = 0;
@@ -236,8 +247,8 @@ fn a_made_gate_holds_100_ms_and_a_kept_one_50() {
 fn a_made_hold_is_read() {
     let read: Vec<_> = held()
         .into_iter()
-        .filter(|(call, _)| matches!(call, Call::Read(name) if name == b"hold"))
-        .map(|(_, answer)| [4, 56].map(|at| Taker(&answer[at..]).single()))
+        .filter(|(call, ..)| matches!(call, Call::Read(name) if name == b"hold"))
+        .map(|(.., answer)| [4, STATE + 32].map(|at| Taker(&answer[at..]).single()))
         .collect();
     assert_eq!(read, [[100.0; 2], [100.0; 2], [50.0; 2], [50.0; 2]]);
 }

@@ -33,6 +33,32 @@ fn hold(random: &mut Random) -> f32 {
     }
 }
 
+/// Some steps above or below a hold from 0 on.
+fn beside(hold: f32, steps: i32) -> f32 {
+    f32::from_bits(hold.to_bits().saturating_add_signed(steps)).min(LONGEST_HOLD)
+}
+
+/// A hold that comes to a whole number of samples, where one is near; or a step or two from it.
+fn whole_hold(samples: u64, rate: f32, random: &mut Random) -> f32 {
+    let near = samples as f32 * 1_000.0 / rate;
+    let is_whole = |&hold: &f32| (hold * 0.001) * rate == samples as f32;
+    let mut holds = (-2..=2).map(|steps| beside(near, steps));
+    let steps = random.pick(&[-2, -1, 0, 0, 0, 0, 1, 2]);
+    beside(holds.find(is_whole).unwrap_or(near), steps)
+}
+
+/// A hold that is a whole number of samples or nearly one, or so of halves of milliseconds; or any.
+pub fn counted_hold(rate: f32, random: &mut Random) -> f32 {
+    let most = rate as u64 / 2;
+    match random.below(8) {
+        0 => hold(random),
+        1 => random.below(1_001) as f32 / 2.0,
+        2 | 3 => whole_hold(random.below(40), rate, random),
+        4 => whole_hold(1 << random.below(17), rate, random),
+        _ => whole_hold(random.below(most + 1), rate, random),
+    }
+}
+
 /// A gate that 9 accepts, in the middle of its work.
 pub fn acceptable(random: &mut Random) -> Gate {
     Gate {

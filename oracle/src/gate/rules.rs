@@ -6,9 +6,10 @@ use super::{
 use crate::{
     bits::bits32,
     calls::{
-        Rules, Seen,
+        HoldTold, Rules, Seen,
         number::{Number, Taker, singles},
     },
+    exact::{self, BINARY32},
     limits::{LARGEST_SAMPLE, is_rate, is_smoothing},
 };
 
@@ -47,6 +48,17 @@ impl Gate {
             Setting::Attack(..) => self.attack,
             Setting::Release(..) => self.release,
             Setting::Hold(_) => self.hold,
+        }
+    }
+
+    /// H and its word: document 02's W9, over whole numbers. They are those of (hold*0.001)*rate, each product rounded.
+    fn hold_in_samples(&self) -> HoldTold {
+        let bits = |x: f32| u64::from(x.to_bits());
+        let product = |a, b| exact::product(BINARY32, a, b);
+        let samples = product(product(bits(self.hold), bits(0.001)), bits(self.rate));
+        HoldTold {
+            word: exact::exactness(BINARY32, samples),
+            samples: exact::truncated(BINARY32, samples),
         }
     }
 }
@@ -120,6 +132,13 @@ impl Rules for Gate {
             Some(setting) if !setting.is_in_range() => Err(3),
             Some(setting) if !setting.is_worked() => Err(4),
             Some(setting) => Ok(setting.taken(*self)),
+        }
+    }
+
+    fn hold_told(&self, name: &[u8]) -> HoldTold {
+        match name {
+            b"hold" => self.hold_in_samples(),
+            _ => HoldTold::default(),
         }
     }
 

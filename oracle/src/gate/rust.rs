@@ -2,7 +2,8 @@
 use super::rules::Gate;
 use crate::{
     bits::bits32,
-    calls::{self, Seen},
+    calls::{self, HoldTold, Seen},
+    exact::{CUT, EXACT},
 };
 use rustortion_core::amp::stages::{
     Stage,
@@ -53,6 +54,19 @@ impl calls::Rust<Gate> for Rust {
             state: registers.state,
             counter: registers.counter as u64,
             ..*gate
+        }
+    }
+
+    /// The Rust counts the samples, and has no word: it is that of its own product, which H must be.
+    fn hold_told(&self, name: &[u8]) -> HoldTold {
+        if name != b"hold" {
+            return HoldTold::default();
+        }
+        let samples = self.0.hold_samples();
+        let is_exact = samples as f32 == self.0.hold_product();
+        HoldTold {
+            word: if is_exact { EXACT } else { CUT },
+            samples: samples as u64,
         }
     }
 

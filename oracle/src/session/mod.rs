@@ -8,9 +8,9 @@ mod rows;
 mod told;
 mod worked;
 
-use crate::{gate::Gate, wave::rules::read, wave_write::rules::head};
+use crate::{exact::EXACT, gate::Gate, wave::rules::read, wave_write::rules::head};
 use passage::{Passage, Then};
-use told::{Heard, Run, Span, Told};
+use told::{Heard, Hold, Run, Span, Told};
 
 /// How far a time may be from its sample's: three decimals are said.
 const MS: f64 = 0.000_6;
@@ -33,6 +33,7 @@ pub fn judged(file: &[u8], json: &str, gated: Option<&[u8]>) -> Result<String, S
     same("rate", said.rate, rate)?;
     same("samples", said.samples, count)?;
     near("ms", said.ms, count, rate)?;
+    settings_agree(&said.gate, &said.hold)?;
     match &said.heard {
         Heard::Runs(_) if gated.is_some() => Err("several runs write no file".into()),
         Heard::Runs(runs) => {
@@ -44,7 +45,7 @@ pub fn judged(file: &[u8], json: &str, gated: Option<&[u8]>) -> Result<String, S
         }
         Heard::Spans { spans, times, open } => {
             let then = behind(&said, gated.is_some())?;
-            let passage = passed(said.gate, said.hold_samples, samples, then)?;
+            let passage = passage::of(said.gate, samples, then)?;
             spans_agree(spans, *open, &passage)?;
             let timed = |&(sample, ms): &(u64, f64)| near("a span's time", ms, sample, rate);
             times.iter().try_for_each(timed)?;
@@ -99,11 +100,20 @@ fn near(name: &str, ms: f64, sample: u64, rate: u32) -> Result<(), String> {
     }
 }
 
-/// The recording through a gate whose worked numbers are judged.
-fn passed(gate: Gate, hold_samples: u64, samples: &[u8], then: Then) -> Result<Passage, String> {
-    worked::judged(&gate)?;
-    same("hold_samples", hold_samples, worked::hold_samples(&gate))?;
-    passage::of(gate, samples, then)
+/// Whether the worked numbers and the hold are the gate's.
+fn settings_agree(gate: &Gate, said: &Hold) -> Result<(), String> {
+    worked::judged(gate)?;
+    let hold = worked::hold(gate)?;
+    same("hold_samples", said.samples, hold.samples)?;
+    same("hold_word", &said.word[..], word(hold.word))
+}
+
+/// A truncation's word as the tool writes it.
+const fn word(word: u32) -> &'static str {
+    match word {
+        EXACT => "exact",
+        _ => "cut",
+    }
 }
 
 /// The bands' numbers are judged also where nothing is written.
@@ -125,7 +135,8 @@ fn spans_agree(said: &[Span], open: u64, passage: &Passage) -> Result<(), String
 }
 
 fn agrees(run: &Run, samples: &[u8]) -> Result<(), String> {
-    let passage = passed(run.gate, run.hold_samples, samples, Then::Nothing)?;
+    settings_agree(&run.gate, &run.hold)?;
+    let passage = passage::of(run.gate, samples, Then::Nothing)?;
     let name = |of: &str| {
         format!(
             "{of} at {} dB, hold {} ms",

@@ -22,7 +22,7 @@ fn click() -> Vec<u8> {
     file(8_000, &samples)
 }
 
-const SETTINGS: &str = r#""settings":{"threshold_db":-40,"factor":0.00999999978,"ratio":10,"attack_ms":1,"opening":0.882496893,"release_ms":100,"closing":0.998750806,"hold_ms":100,"hold_samples":800,"rising":0.286504805,"falling":0.987577796}"#;
+const SETTINGS: &str = r#""settings":{"threshold_db":-40,"factor":0.00999999978,"ratio":10,"attack_ms":1,"opening":0.882496893,"release_ms":100,"closing":0.998750806,"hold_ms":100,"hold_samples":800,"hold_word":"exact","rising":0.286504805,"falling":0.987577796}"#;
 const SPANS: &str =
     r#""eq":[],"spans":[{"from":100,"to":1185,"from_ms":12.500,"to_ms":148.125}],"open":1085"#;
 
@@ -73,6 +73,9 @@ fn wrong_ones() {
             "hold_samples",
         ),
         (r#""hold_ms":100"#, r#""hold_ms":50"#, "hold_samples"),
+        (r#""exact""#, r#""cut""#, "hold_word"),
+        (r#""exact""#, r#""whole""#, "hold_word"),
+        (r#""exact""#, r#""""#, "hold_word"),
         (
             r#""hold_ms":100,"hold_samples":800"#,
             r#""hold_ms":50,"hold_samples":400"#,
@@ -94,6 +97,45 @@ fn wrong_ones() {
     for (part, other, word) in wrong {
         let said = with(part, other).expect_err(other);
         assert!(said.contains(word), "{other}: {said}");
+    }
+}
+
+/// What is said of the click with another hold, whose samples but the first follow the last loud one, 385.
+fn with_hold(ms: &str, samples: u32, word: &str) -> Result<String, String> {
+    let to = 386 + samples.saturating_sub(1);
+    let changed = [
+        (r#""hold_ms":100"#, format!(r#""hold_ms":{ms}"#)),
+        (r#"samples":800,"#, format!(r#"samples":{samples},"#)),
+        (r#""exact""#, format!(r#""{word}""#)),
+        (r#""to":1185"#, format!(r#""to":{to}"#)),
+        ("148.125", format!("{:.3}", f64::from(to) / 8.0)),
+        (r#""open":1085"#, format!(r#""open":{}"#, to - 100)),
+    ];
+    let json = changed.iter().fold(json(), |json, (part, other)| {
+        assert_eq!(json.matches(part).count(), 1, "{part}");
+        json.replace(part, other)
+    });
+    judged(&click(), &json, None)
+}
+
+/// In float 5/8 ms are 5.0000005 samples at 8,000 Hz, 5 ms are 40.000004, 10 ms 80.00001 and 1/10 ms is 0.8; the others
+/// are whole.
+#[test]
+fn holds_and_their_words() {
+    for (ms, samples, word, other) in [
+        ("0.1", 0, "cut", "exact"),
+        ("0.125", 1, "exact", "cut"),
+        ("0.375", 3, "exact", "cut"),
+        ("0.625", 5, "cut", "exact"),
+        ("5", 40, "cut", "exact"),
+        ("10", 80, "cut", "exact"),
+        ("50", 400, "exact", "cut"),
+    ] {
+        assert!(with_hold(ms, samples, word).is_ok(), "{ms} ms");
+        let said = with_hold(ms, samples, other).unwrap_err();
+        assert!(said.contains("hold_word"), "{ms} ms: {said}");
+        let said = with_hold(ms, samples + 1, word).unwrap_err();
+        assert!(said.contains("hold_samples"), "{ms} ms: {said}");
     }
 }
 
@@ -130,6 +172,13 @@ fn no_json() {
             r#""samples":16000,"rate":8000"#,
         ),
         (r#""eq":[],"#, ""),
+        (r#""hold_word":"exact","#, ""),
+        (r#""hold_word":"exact""#, r#""hold_word":1"#),
+        (r#""hold_word":"exact""#, r#""hold_word":null"#),
+        (
+            r#""hold_samples":800,"hold_word":"exact""#,
+            r#""hold_word":"exact","hold_samples":800"#,
+        ),
         (r#""open":1085"#, r#""open":1085,"more":1"#),
         (r#""open":1085"#, r#""open":"1085""#),
         (r#""open":1085"#, r#""open":nan"#),
@@ -217,8 +266,8 @@ fn an_equaliser_behind_it() {
     assert!(judged(&click(), &other, None).is_err());
 }
 
-const RUN: &str = r#"{"threshold_db":-40,"factor":0.00999999978,"hold_ms":100,"hold_samples":800,"open":1085,"spans":1,"first":100,"end":1185}"#;
-const SILENT: &str = r#"{"threshold_db":0,"factor":1,"hold_ms":0,"hold_samples":0,"open":0,"spans":0,"first":null,"end":null}"#;
+const RUN: &str = r#"{"threshold_db":-40,"factor":0.00999999978,"hold_ms":100,"hold_samples":800,"hold_word":"exact","open":1085,"spans":1,"first":100,"end":1185}"#;
+const SILENT: &str = r#"{"threshold_db":0,"factor":1,"hold_ms":0,"hold_samples":0,"hold_word":"exact","open":0,"spans":0,"first":null,"end":null}"#;
 
 #[test]
 fn several_runs() {
@@ -238,6 +287,9 @@ fn several_runs() {
         (r#""first":100,"end":1185"#, r#""first":null,"end":null"#),
         (r#""threshold_db":-40"#, r#""threshold_db":-20"#),
         (r#""hold_samples":800"#, r#""hold_samples":801"#),
+        (r#""hold_word":"exact""#, r#""hold_word":"cut""#),
+        (r#""hold_word":"exact","#, ""),
+        (r#""hold_word":"exact""#, r#""hold_word":true"#),
         (
             r#""hold_ms":100,"hold_samples":800"#,
             r#""hold_ms":50,"hold_samples":400"#,
@@ -245,5 +297,27 @@ fn several_runs() {
     ] {
         assert_eq!(RUN.matches(part).count(), 1, "{part}");
         assert!(with(&RUN.replace(part, other)).is_err(), "{other}");
+    }
+}
+
+/// Of a run whose hold is cut, and of the settings beside the runs.
+#[test]
+fn words_of_several_runs() {
+    let of = |run: &str, settings: &str| {
+        let runs = format!(r#""eq":[],"runs":[{run},{SILENT}]"#);
+        let json = json().replace(SPANS, &runs).replace(SETTINGS, settings);
+        judged(&click(), &json, None)
+    };
+    let cut = RUN
+        .replace(r#""hold_ms":100"#, r#""hold_ms":10"#)
+        .replace(":800", ":80")
+        .replace("exact", "cut")
+        .replace(":1085", ":365")
+        .replace(":1185", ":465");
+    assert!(of(&cut, SETTINGS).is_ok());
+    assert!(of(&cut.replace("cut", "exact"), SETTINGS).is_err());
+    for (part, other) in [("exact", "cut"), (":800", ":801")] {
+        assert_eq!(SETTINGS.matches(part).count(), 1, "{part}");
+        assert!(of(RUN, &SETTINGS.replace(part, other)).is_err(), "{other}");
     }
 }

@@ -17,10 +17,16 @@ pub enum Heard {
     Runs(Vec<Run>),
 }
 
+/// A hold in samples, and its word.
+pub struct Hold {
+    pub samples: u64,
+    pub word: String,
+}
+
 /// A run of --compare: its settings, how many samples and spans, the first sample aimed open and the end of the last span.
 pub struct Run {
     pub gate: Gate,
-    pub hold_samples: u64,
+    pub hold: Hold,
     pub open: u64,
     pub spans: u64,
     pub ends: Option<Span>,
@@ -34,7 +40,7 @@ pub struct Told {
     pub samples: u64,
     pub ms: f64,
     pub gate: Gate,
-    pub hold_samples: u64,
+    pub hold: Hold,
     pub bands: Vec<Band>,
     pub heard: Heard,
 }
@@ -55,17 +61,15 @@ pub fn read(text: &str) -> Or<Told> {
     let [file, rate, samples, ms, settings, bands, ref last @ ..] = values[..] else {
         unreachable!("both have these")
     };
-    if !matches!(file, Json::Text(_)) {
-        return Err("file is no string".into());
-    }
+    string("file", file)?;
     let rate = parsed("rate", rate)?;
-    let (gate, hold_samples) = gate(settings, rate)?;
+    let (gate, hold) = gate(settings, rate)?;
     Ok(Told {
         rate,
         samples: parsed("samples", samples)?,
         ms: parsed("ms", ms)?,
         gate,
-        hold_samples,
+        hold,
         bands: list("eq", bands)?.iter().map(band).collect::<Or<_>>()?,
         heard: match *last {
             [spans, open] => heard(list("spans", spans)?, parsed("open", open)?)?,
@@ -98,6 +102,13 @@ fn list<'a>(name: &str, json: &'a Json) -> Or<&'a [Json]> {
     }
 }
 
+fn string<'a>(name: &str, json: &'a Json) -> Or<&'a str> {
+    match json {
+        Json::Text(text) => Ok(text),
+        _ => Err(format!("{name} is no string")),
+    }
+}
+
 fn parsed<T: FromStr>(name: &str, json: &Json) -> Or<T> {
     match json {
         Json::Number(text) => text.parse().map_err(|_| format!("{name} is {text}")),
@@ -105,8 +116,15 @@ fn parsed<T: FromStr>(name: &str, json: &Json) -> Or<T> {
     }
 }
 
-fn gate(json: &Json, rate: u32) -> Or<(Gate, u64)> {
-    const NAMES: [&str; 11] = [
+fn held(samples: &Json, word: &Json) -> Or<Hold> {
+    Ok(Hold {
+        samples: parsed("hold_samples", samples)?,
+        word: string("hold_word", word)?.into(),
+    })
+}
+
+fn gate(json: &Json, rate: u32) -> Or<(Gate, Hold)> {
+    const NAMES: [&str; 12] = [
         "threshold_db",
         "factor",
         "ratio",
@@ -116,6 +134,7 @@ fn gate(json: &Json, rate: u32) -> Or<(Gate, u64)> {
         "closing",
         "hold_ms",
         "hold_samples",
+        "hold_word",
         "rising",
         "falling",
     ];
@@ -131,11 +150,11 @@ fn gate(json: &Json, rate: u32) -> Or<(Gate, u64)> {
         release: single(5)?,
         closing: single(6)?,
         hold: single(7)?,
-        rising: single(9)?,
-        falling: single(10)?,
+        rising: single(10)?,
+        falling: single(11)?,
         ..Gate::default()
     };
-    Ok((gate, parsed(NAMES[8], values[8])?))
+    Ok((gate, held(values[8], values[9])?))
 }
 
 fn band(json: &Json) -> Or<Band> {
@@ -171,6 +190,7 @@ fn run(json: &Json, gate: Gate) -> Or<Run> {
         factor,
         hold,
         hold_samples,
+        hold_word,
         open,
         spans,
         first,
@@ -182,6 +202,7 @@ fn run(json: &Json, gate: Gate) -> Or<Run> {
             "factor",
             "hold_ms",
             "hold_samples",
+            "hold_word",
             "open",
             "spans",
             "first",
@@ -199,7 +220,7 @@ fn run(json: &Json, gate: Gate) -> Or<Run> {
             hold: parsed("hold_ms", hold)?,
             ..gate
         },
-        hold_samples: parsed("hold_samples", hold_samples)?,
+        hold: held(hold_samples, hold_word)?,
         open: parsed("open", open)?,
         spans: parsed("spans", spans)?,
         ends,

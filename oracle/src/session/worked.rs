@@ -3,7 +3,7 @@
 use super::told::Band;
 use crate::{
     calls::{
-        Rules,
+        HoldTold, Rules, Rust, hold_told,
         number::{Taker, doubles, kept},
     },
     eq::Equaliser,
@@ -51,9 +51,9 @@ pub fn gate([threshold, ratio, attack, release, hold]: [f32; 5], rate: u32) -> G
     }
 }
 
-/// The hold in samples, as the Rust counts it.
-pub fn hold_samples(gate: &Gate) -> u64 {
-    ((gate.hold * 0.001) * gate.rate) as u64
+/// The hold in samples and its word, on which document 02 and the Rust agree.
+pub fn hold(gate: &Gate) -> Result<HoldTold, String> {
+    hold_told(b"hold", gate, &Rust::holding(gate))
 }
 
 /// Whether each worked number of a gate is one of the two, and 9 accepts the gate.
