@@ -25,7 +25,7 @@ struct offer {
     float (*root32)(float x);
     float (*size32)(float x);
     double (*size64)(double x);
-    uint64_t (*truncated)(float x);
+    hoofglaze_truncation (*truncated)(float x);
     float (*narrowed)(double x);
 };
 
@@ -36,7 +36,7 @@ double nothing_fma64(double a, double b, double c) __asm__("nothing");
 float nothing_root32(float x) __asm__("nothing");
 float nothing_size32(float x) __asm__("nothing");
 double nothing_size64(double x) __asm__("nothing");
-uint64_t nothing_truncated(float x) __asm__("nothing");
+hoofglaze_truncation nothing_truncated(float x) __asm__("nothing");
 float nothing_narrowed(double x) __asm__("nothing");
 
 static const struct offer offers[] = {
@@ -131,11 +131,19 @@ static int same(double x, double y)
 /* Whether someone gives the library's numbers, where they offer the function. */
 #define AGREES(FUNCTION, ...) (!o->FUNCTION || same(library->FUNCTION(__VA_ARGS__), o->FUNCTION(__VA_ARGS__)))
 
+static int truncates_alike(const struct offer *o, float x)
+{
+    if (!o->truncated)
+        return 1;
+    hoofglaze_truncation ours = library->truncated(x), theirs = o->truncated(x);
+    return ours.whole == theirs.whole && ours.word == theirs.word;
+}
+
 static int agrees(const struct offer *o, int i)
 {
     return AGREES(fma32, a32[i], b32[i], c32[i]) && AGREES(fma64, a64[i], b64[i], c64[i]) &&
            AGREES(root32, squares[i]) && AGREES(size32, a32[i]) && AGREES(size64, a64[i]) &&
-           (!o->truncated || library->truncated(a32[i]) == o->truncated(a32[i])) && AGREES(narrowed, a64[i]);
+           truncates_alike(o, a32[i]) && AGREES(narrowed, a64[i]);
 }
 
 static int agree(void)

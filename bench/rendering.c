@@ -240,9 +240,20 @@ double rendered_size64(double x)
     return x != x ? double_of(QUIET64) : double_of(bytes64(x) & ~((uint64_t)1 << 63));
 }
 
-uint64_t rendered_truncated(float x)
+/* From 2^24 on every float is a whole number. */
+static uint32_t word_of(float x, uint64_t n)
 {
-    return !(x > -1) ? 0 : x < 0x1p64f ? (uint64_t)x : UINT64_MAX;
+    return n >= 1 << 24 || (float)n == x ? HOOFGLAZE_EXACT : HOOFGLAZE_CUT;
+}
+
+hoofglaze_truncation rendered_truncated(float x)
+{
+    if (!(x > -1))
+        return (hoofglaze_truncation){0, HOOFGLAZE_CUT};
+    if (!(x < 0x1p64f))
+        return (hoofglaze_truncation){UINT64_MAX, HOOFGLAZE_CUT};
+    uint64_t n = (uint64_t)x;
+    return (hoofglaze_truncation){n, word_of(x, n)};
 }
 
 float rendered_narrowed(double x)

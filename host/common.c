@@ -31,22 +31,24 @@ static uint32_t any(void)
 static void layout(void)
 {
     group("common: sizes and offsets");
-    check("answer", sizeof(hoofglaze_answer), 24, 0, 0, 0);
+    check("answer", sizeof(hoofglaze_answer), 40, 0, 0, 0);
     check("answer.number", offsetof(hoofglaze_answer, number), 0, 0, 0, 0);
     check("answer.value", offsetof(hoofglaze_answer, value), 4, 0, 0, 0);
     check("answer.place", offsetof(hoofglaze_answer, place), 8, 0, 0, 0);
     check("answer.count", offsetof(hoofglaze_answer, count), 16, 0, 0, 0);
+    check("answer.samples", offsetof(hoofglaze_answer, samples), 24, 0, 0, 0);
+    check("answer.word", offsetof(hoofglaze_answer, word), 32, 0, 0, 0);
     check("follower", sizeof(hoofglaze_follower), 12, 0, 0, 0);
     check("follower.attack", offsetof(hoofglaze_follower, attack), 0, 0, 0, 0);
     check("follower.release", offsetof(hoofglaze_follower, release), 4, 0, 0, 0);
     check("follower.level", offsetof(hoofglaze_follower, level), 8, 0, 0, 0);
-    check("follower_answered", sizeof(hoofglaze_follower_answered), 40, 0, 0, 0);
+    check("follower_answered", sizeof(hoofglaze_follower_answered), 56, 0, 0, 0);
     check("follower_answered.answer", offsetof(hoofglaze_follower_answered, answer), 16, 0, 0, 0);
     check("blocker", sizeof(hoofglaze_blocker), 12, 0, 0, 0);
     check("blocker.c", offsetof(hoofglaze_blocker, c), 0, 0, 0, 0);
     check("blocker.x1", offsetof(hoofglaze_blocker, x1), 4, 0, 0, 0);
     check("blocker.y1", offsetof(hoofglaze_blocker, y1), 8, 0, 0, 0);
-    check("blocker_answered", sizeof(hoofglaze_blocker_answered), 40, 0, 0, 0);
+    check("blocker_answered", sizeof(hoofglaze_blocker_answered), 56, 0, 0, 0);
     check("blocker_answered.answer", offsetof(hoofglaze_blocker_answered, answer), 16, 0, 0, 0);
 }
 
@@ -95,6 +97,8 @@ static void check_told(const char *call, struct told given, uint32_t number, str
     check(call, bytes32(given.answer.value), value, state.bits[0], state.bits[1], state.bits[2]);
     check(call, given.answer.place, 0, state.bits[0], state.bits[1], state.bits[2]);
     check(call, given.answer.count, 0, state.bits[0], state.bits[1], state.bits[2]);
+    check(call, given.answer.samples, 0, state.bits[0], state.bits[1], state.bits[2]);
+    check(call, given.answer.word, 0, state.bits[0], state.bits[1], state.bits[2]);
     for (int i = 0; i < 3; i++)
         check(call, given.state.bits[i], state.bits[i], number, i, state.bits[0]);
 }

@@ -19,7 +19,7 @@ static void layout(void)
         sizeof(hoofglaze_eq_registers), sizeof(hoofglaze_eq), offsetof(hoofglaze_eq, registers),
         sizeof(hoofglaze_eq_answered), offsetof(hoofglaze_eq_answered, answer)};
     static const size_t said[] = {40, 0, 8,  16, 24,  32,   48,  8,    776, 8,
-                                  32, 8, 16, 24, 512, 1288, 776, 1312, 1288};
+                                  32, 8, 16, 24, 512, 1288, 776, 1328, 1288};
     group("eq: sizes and offsets");
     for (int i = 0; i < COUNT(said); i++)
         check("layout", given[i], said[i], i, 0, 0);

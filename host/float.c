@@ -3,7 +3,7 @@
 #include <math.h>
 
 #include "checks.h"
-#include "hoofglaze.h"
+#include "truncation.h"
 
 enum { RANDOM = 2000 };
 
@@ -131,7 +131,7 @@ static void nan_operands(void)
         uint64_t n = nan_of(single, i), m = nan_of(wide, i);
         check("widened", bytes64(hoofglaze_widened(float_of(n))), QUIET64, n, 0, 0);
         check("narrowed", bytes32(hoofglaze_narrowed(double_of(m))), QUIET32, m, 0, 0);
-        check("truncated", hoofglaze_truncated(float_of(n)), 0, n, 0, 0);
+        check_truncated(n, (hoofglaze_truncation){0, HOOFGLAZE_CUT});
         check("bits32", hoofglaze_bits32(float_of(n)), QUIET32, n, 0, 0);
         check("bits64", hoofglaze_bits64(double_of(m)), QUIET64, m, 0, 0);
         check("from_bits32", bytes32(hoofglaze_from_bits32(n)), QUIET32, n, 0, 0);
@@ -197,13 +197,21 @@ static void values(void)
     }
 }
 
+/* A whole number below 2^64 that was truncated from a float has at most 24 digits, so double holds it. */
+static hoofglaze_truncation truncated_by_processor(float x)
+{
+    if (!(x > -1 && x < 0x1p64f))
+        return (hoofglaze_truncation){x > 0 ? UINT64_MAX : 0, HOOFGLAZE_CUT};
+    uint64_t whole = (uint64_t)x;
+    return (hoofglaze_truncation){whole, (double)whole == (double)x ? HOOFGLAZE_EXACT : HOOFGLAZE_CUT};
+}
+
 static void casts_of_single(uint32_t n)
 {
     float x = float_of(n);
     uint32_t bits = x == x ? n : QUIET32;
-    uint64_t whole = !(x > -1) ? 0 : x < 0x1p64f ? (uint64_t)x : UINT64_MAX;
+    check_truncated(n, truncated_by_processor(x));
     check("widened", bytes64(hoofglaze_widened(x)), x == x ? bytes64((double)x) : QUIET64, n, 0, 0);
-    check("truncated", hoofglaze_truncated(x), whole, n, 0, 0);
     check("bits32", hoofglaze_bits32(x), bits, n, 0, 0);
     check("from_bits32", bytes32(hoofglaze_from_bits32(n)), bits, n, 0, 0);
 }

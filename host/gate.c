@@ -17,7 +17,7 @@ static void layout(void)
         offsetof(hoofglaze_gate, registers), sizeof(hoofglaze_gate_answered),
         offsetof(hoofglaze_gate_answered, answer)};
     static const size_t said[] = {4,  4,  44, 0,  4, 8, 12, 16, 20, 24, 28,
-                                  32, 36, 40, 16, 0, 4, 8,  64, 48, 88, 64};
+                                  32, 36, 40, 16, 0, 4, 8,  64, 48, 104, 64};
     group("gate: sizes and offsets");
     for (size_t i = 0; i < sizeof said / sizeof said[0]; i++)
         check("layout", given[i], said[i], i, 0, 0);
@@ -48,6 +48,19 @@ void check_gate(const char *call, const hoofglaze_gate *given, const hoofglaze_g
 void check_told(const char *call, hoofglaze_gate_answered given, uint32_t number, hoofglaze_gate said)
 {
     check_answer(call, given.answer, number, 0, 0, 0);
+    check_gate(call, &given.gate, &said);
+}
+
+hoofglaze_truncation held(float hold, float rate)
+{
+    float product = (hold * 0.001f) * rate;
+    uint64_t whole = (uint64_t)product;
+    return (hoofglaze_truncation){whole, (double)whole == (double)product ? HOOFGLAZE_EXACT : HOOFGLAZE_CUT};
+}
+
+void check_told_hold(const char *call, hoofglaze_gate_answered given, hoofglaze_gate said)
+{
+    check_hold_answer(call, given.answer, held(said.settings.hold, said.settings.rate));
     check_gate(call, &given.gate, &said);
 }
 
@@ -132,6 +145,15 @@ hoofglaze_gate_answered set_in_place(hoofglaze_gate g, const char *name, size_t 
     return a;
 }
 
+static void check_setting(const char *call, hoofglaze_gate_answered given, int i, uint32_t number,
+                          hoofglaze_gate said)
+{
+    if (i == HOLD && number == 0)
+        check_told_hold(call, given, said);
+    else
+        check_told(call, given, number, said);
+}
+
 static void check_set(hoofglaze_gate g, int i, uint32_t value, uint32_t worked)
 {
     const struct named *n = &named[i];
@@ -145,9 +167,9 @@ static void check_set(hoofglaze_gate g, int i, uint32_t value, uint32_t worked)
     }
     const uint8_t *name = (const uint8_t *)n->name;
     size_t bytes = strlen(n->name);
-    check_told("gate_set", hoofglaze_gate_set(g, name, bytes, v, w), number, said);
-    check_told("gate_set_in_place", set_in_place(g, n->name, bytes, v, w), number, said);
-    check_told("typed setting", set_typed(g, i, v, w), number, said);
+    check_setting("gate_set", hoofglaze_gate_set(g, name, bytes, v, w), i, number, said);
+    check_setting("gate_set_in_place", set_in_place(g, n->name, bytes, v, w), i, number, said);
+    check_setting("typed setting", set_typed(g, i, v, w), i, number, said);
     check_answer("gate_read", hoofglaze_gate_read(said, name, bytes), 0, 0, 0, setting(&said, n->place));
 }
 

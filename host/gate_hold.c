@@ -2,7 +2,8 @@
  * was kept with where a host kept it. */
 #include "gate.h"
 
-enum { BEFORE = 3, BEHIND = 5, MOST = BEFORE + 19200 + BEHIND };
+/* The longest hold: 500 ms at 192,000 Hz. */
+enum { BEFORE = 3, BEHIND = 5, MOST = BEFORE + 96000 + BEHIND };
 
 static float sound[MOST], passed[MOST];
 static uint8_t aims[MOST];
@@ -55,18 +56,17 @@ static void check_open(hoofglaze_gate g, size_t from, size_t to, size_t n)
     check("gate_block", in_blocks(g, n, 0), to - from, from, to, n);
 }
 
-/* Silence, one sample, and silence again: open from that sample on, so many with it. The level is a sample's
- * size, so no later one is loud. */
-static void check_holds(hoofglaze_gate g, float loud, size_t held)
+/* The level is a sample's size, so no later one is loud. */
+void check_holds(hoofglaze_gate g, float loud, size_t open)
 {
     memset(sound, 0, sizeof sound);
     sound[BEFORE] = loud;
-    check_open(g, BEFORE, BEFORE + held, BEFORE + held + BEHIND);
+    check_open(g, BEFORE, BEFORE + open, BEFORE + open + BEHIND);
 }
 
 /* ---- as it was made */
 
-static hoofglaze_gate heard(hoofglaze_gate g)
+hoofglaze_gate heard(hoofglaze_gate g)
 {
     hoofglaze_gate_answered a = set_typed(g, 0, -12, 0.25f);
     check_answer("gate_set_threshold", a.answer, 0, 0, 0, 0);
@@ -123,7 +123,9 @@ static void holds_as_kept(void)
     check_open(g, 0, 299, 400);
     check_former("gate_reset", hoofglaze_gate_reset(g).gate);
     check_former("gate_set_threshold", heard(gate_of(former, at_rest)));
-    check_former("gate_set_hold", set_typed(heard(made(48000, 0, 0)), 4, 50, 0).gate);
+    hoofglaze_gate_answered set = set_typed(heard(made(48000, 0, 0)), HOLD, 50, 0);
+    check_hold_answer("gate_set_hold", set.answer, (hoofglaze_truncation){2400, HOOFGLAZE_EXACT});
+    check_former("gate_set_hold", set.gate);
 }
 
 void hold_checks(void)

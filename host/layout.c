@@ -4,15 +4,20 @@
 #include "hoofglaze.h"
 #include "wave_bytes.h"
 
-_Static_assert(sizeof(hoofglaze_answer) == 24, "an answer");
+_Static_assert(sizeof(hoofglaze_truncation) == 16, "a truncation");
+_Static_assert(sizeof(hoofglaze_answer) == 40, "an answer");
 _Static_assert(sizeof(hoofglaze_wave) == 24, "a recording");
 _Static_assert(sizeof(hoofglaze_written) == 8, "a recording that is written");
-_Static_assert(sizeof(hoofglaze_follower) == 12 && sizeof(hoofglaze_follower_answered) == 40, "a follower");
-_Static_assert(sizeof(hoofglaze_blocker) == 12 && sizeof(hoofglaze_blocker_answered) == 40, "a blocker");
+_Static_assert(sizeof(hoofglaze_follower) == 12 && sizeof(hoofglaze_follower_answered) == 56, "a follower");
+_Static_assert(sizeof(hoofglaze_blocker) == 12 && sizeof(hoofglaze_blocker_answered) == 56, "a blocker");
 _Static_assert(sizeof(hoofglaze_decibels) == 4 && sizeof(hoofglaze_factor) == 4, "a float each");
 _Static_assert(sizeof(hoofglaze_gate_settings) == 44 && sizeof(hoofglaze_gate_registers) == 16, "a gate");
-_Static_assert(sizeof(hoofglaze_gate) == 64 && sizeof(hoofglaze_gate_answered) == 88, "a gate answered");
-_Static_assert(sizeof(hoofglaze_leveller) == 40 && sizeof(hoofglaze_leveller_answered) == 64, "a leveller");
+_Static_assert(sizeof(hoofglaze_gate) == 64 && sizeof(hoofglaze_gate_answered) == 104, "a gate answered");
+_Static_assert(sizeof(hoofglaze_leveller) == 40 && sizeof(hoofglaze_leveller_answered) == 80, "a leveller");
+_Static_assert(sizeof(hoofglaze_eq) == 1288 && sizeof(hoofglaze_eq_answered) == 1328, "an equaliser");
+_Static_assert(sizeof(hoofglaze_tone) == 44 && sizeof(hoofglaze_tone_answered) == 88, "a tone stack");
+_Static_assert(sizeof(hoofglaze_saturator) == 356, "a saturator");
+_Static_assert(sizeof(hoofglaze_saturator_answered) == 400, "a saturator answered");
 
 static uint32_t word_at(const void *from, size_t place)
 {
@@ -35,13 +40,36 @@ static void check_floats(const char *call, const void *from, size_t place, const
         check(call, word_at(from, place + 4 * i), bytes32(said[i]), place + 4 * i, 0, 0);
 }
 
+/* Its last four bytes are any. */
+static void check_whole_answer_at(const char *call, const void *from, size_t place, hoofglaze_answer said)
+{
+    check(call, word_at(from, place), said.number, place, 0, 0);
+    check(call, word_at(from, place + 4), bytes32(said.value), place + 4, 0, 0);
+    check(call, long_at(from, place + 8), said.place, place + 8, 0, 0);
+    check(call, long_at(from, place + 16), said.count, place + 16, 0, 0);
+    check(call, long_at(from, place + 24), said.samples, place + 24, 0, 0);
+    check(call, word_at(from, place + 32), said.word, place + 32, 0, 0);
+}
+
 static void check_answer_at(const char *call, const void *from, size_t place, uint32_t number, float value,
                             uint64_t at, uint64_t count)
 {
-    check(call, word_at(from, place), number, place, 0, 0);
-    check(call, word_at(from, place + 4), bytes32(value), place + 4, 0, 0);
-    check(call, long_at(from, place + 8), at, place + 8, 0, 0);
-    check(call, long_at(from, place + 16), count, place + 16, 0, 0);
+    const hoofglaze_answer said = {.number = number, .value = value, .place = at, .count = count};
+    check_whole_answer_at(call, from, place, said);
+}
+
+static void truncation(void)
+{
+    static const float numbers[] = {0x1p63f, 2.5f, -1, 0x1p64f};
+    static const uint64_t wholes[] = {0x8000000000000000u, 2, 0, UINT64_MAX};
+    static const uint32_t words[] = {1, 2, 2, 2};
+    for (unsigned i = 0; i < sizeof numbers / sizeof *numbers; i++) {
+        hoofglaze_truncation t;
+        memset(&t, 0xaa, sizeof t);
+        t = hoofglaze_truncated(numbers[i]);
+        check("truncated", long_at(&t, 0), wholes[i], 0, i, 0);
+        check("truncated", word_at(&t, 8), words[i], 8, i, 0);
+    }
 }
 
 static void lone(void)
@@ -84,6 +112,25 @@ static void gate_given(void)
     check_answer_at("gate_block", &a, 64, 6, 0, 3, 0);
     hoofglaze_answer r = hoofglaze_gate_read(a.gate, (const uint8_t *)"release", 7);
     check_answer_at("gate_read", &r, 0, 0, 70, 0, 0);
+}
+
+static void hold_at(float hold, hoofglaze_answer said)
+{
+    hoofglaze_gate g = set_gate();
+    hoofglaze_gate_answered a = hoofglaze_gate_set_hold(g, hold);
+    check_whole_answer_at("gate_set_hold", &a, 64, said);
+    a = hoofglaze_gate_set(g, (const uint8_t *)"hold", 4, hold, 0);
+    check_whole_answer_at("gate_set", &a, 64, said);
+    hoofglaze_answer b = hoofglaze_gate_set_in_place(&g, (const uint8_t *)"hold", 4, hold, 0);
+    check_whole_answer_at("gate_set_in_place", &b, 0, said);
+}
+
+/* At 44,100 Hz. */
+static void hold_given(void)
+{
+    hold_at(30, (hoofglaze_answer){.samples = 1323, .word = 1});
+    hold_at(33, (hoofglaze_answer){.samples = 1455, .word = 2});
+    hold_at(501, (hoofglaze_answer){.number = 3});
 }
 
 /* The aims' length is the argument that lies behind the gate. */
@@ -214,8 +261,10 @@ static void recording_written(void)
 void layout_checks(void)
 {
     group("layout: numbers where the header has them");
+    truncation();
     lone();
     gate_given();
+    hold_given();
     record_given();
     gate_handed_back();
     leveller_given();

@@ -19,7 +19,7 @@ static void layout(void)
         sizeof(hoofglaze_leveller), offsetof(hoofglaze_leveller, settings),
         offsetof(hoofglaze_leveller, registers), sizeof(hoofglaze_leveller_answered),
         offsetof(hoofglaze_leveller_answered, leveller), offsetof(hoofglaze_leveller_answered, answer)};
-    static const size_t said[] = {36, 0, 4, 8, 12, 16, 20, 24, 28, 32, 4, 0, 40, 0, 36, 64, 0, 40};
+    static const size_t said[] = {36, 0, 4, 8, 12, 16, 20, 24, 28, 32, 4, 0, 40, 0, 36, 80, 0, 40};
     group("leveller: sizes and offsets, with nothing in between");
     for (int i = 0; i < COUNT(said); i++)
         check("layout", given[i], said[i], i, 0, 0);

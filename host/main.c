@@ -4,6 +4,7 @@
 
 /* One file has the checks of each part of the library. */
 void float_checks(void);
+void truncation_checks(void);
 void common_checks(void);
 void gate_checks(void);
 void clipper_checks(void);
@@ -16,6 +17,7 @@ void root_checks(void);
 void leveller_checks(void);
 void record_checks(void);
 void hold_checks(void);
+void cut_checks(void);
 void head_checks(void);
 void layout_checks(void);
 void padding_checks(void);
@@ -45,6 +47,8 @@ int main(int count, char **words)
     empty_checks();
     path_checks();
     stack_checks();
+    truncation_checks();
+    cut_checks();
     mission_checks(count > 1 ? words[1] : "");
     return !all_passed();
 }

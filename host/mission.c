@@ -46,7 +46,10 @@ static hoofglaze_gate gate_at(float decibels)
     g = done(hoofglaze_gate_set_ratio(g, 10));
     g = done(hoofglaze_gate_set_attack(g, 1, smoothing(RATE, 1)));
     g = done(hoofglaze_gate_set_release(g, 100, smoothing(RATE, 100)));
-    return done(hoofglaze_gate_set_hold(g, 50));
+    hoofglaze_gate_answered held = hoofglaze_gate_set_hold(g, 50);
+    check("the hold in samples", held.answer.samples, RATE / 20, 0, 0, 0);
+    check("is exact", held.answer.word, HOOFGLAZE_EXACT, 0, 0, 0);
+    return done(held);
 }
 
 /* ---- spans: where the gate aimed open */

@@ -85,6 +85,7 @@ static void gate_settings(hoofglaze_gate g, hoofglaze_gate bad)
     SAME(gated = hoofglaze_gate_set(g, NAME("attack"), 3, 0.5f));
     SAME(gated = hoofglaze_gate_set(g, NAME("release"), 3, 0.5f));
     SAME(gated = hoofglaze_gate_set(g, NAME("hold"), 3, 0));
+    SAME(gated = hoofglaze_gate_set(g, NAME("hold"), 1, 0));
     SAME(gated = hoofglaze_gate_set(g, NAME("none"), 3, 0));
     SAME(gated = hoofglaze_gate_set(g, NAME("ratio"), 300, 0));
     SAME(gated = hoofglaze_gate_set(g, NAME("attack"), 3, 1));
@@ -94,6 +95,7 @@ static void gate_settings(hoofglaze_gate g, hoofglaze_gate bad)
     SAME(gated = hoofglaze_gate_set_attack(g, 3, 0.5f));
     SAME(gated = hoofglaze_gate_set_release(g, 3, 0.5f));
     SAME(gated = hoofglaze_gate_set_hold(g, 3));
+    SAME(gated = hoofglaze_gate_set_hold(g, 1));
     SAME(gated = hoofglaze_gate_set_hold(g, -3));
     SAME(gated = hoofglaze_gate_set_hold(bad, 3));
     SAME(answer = hoofglaze_gate_read(g, NAME("hold")));
@@ -120,6 +122,8 @@ static void gate_blocks(hoofglaze_gate g, hoofglaze_gate bad)
     SAME(gated = hoofglaze_gate_record(bad, input, BLOCK, output, BLOCK, aims, BLOCK));
     SAME(answer = hoofglaze_gate_set_in_place(&g, NAME("ratio"), 3, 0));
     SAME(answer = hoofglaze_gate_set_in_place(&g, NAME("ratio"), 300, 0));
+    SAME(answer = hoofglaze_gate_set_in_place(&g, NAME("hold"), 3, 0));
+    SAME(answer = hoofglaze_gate_set_in_place(&g, NAME("hold"), 1, 0));
     SAME(answer = hoofglaze_gate_reset_in_place(&g));
     SAME(answer = hoofglaze_gate_reset_in_place(&bad));
     SAME((lying = g, answer = hoofglaze_gate_block_in_place(&lying, input, BLOCK, output, BLOCK)));

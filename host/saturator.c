@@ -28,7 +28,7 @@ static void layout(void)
         sizeof(hoofglaze_saturator), PLACE(hoofglaze_saturator, registers),
         sizeof(hoofglaze_saturator_answered), offsetof(hoofglaze_saturator_answered, answer)};
     static const size_t said[] = {20, 40, 20, 128, 1,  2,  3,   4, 5,  6,  7,  8,  9,  19, 29,  30,
-                                  31, 32, 12, 228, 8,  16, 24,  32, 40, 48, 51, 54, 356, 32, 384, 360};
+                                  31, 32, 12, 228, 8,  16, 24,  32, 40, 48, 51, 54, 356, 32, 400, 360};
     group("saturator: sizes and offsets");
     for (int i = 0; i < COUNT(said); i++)
         check("layout", given[i], said[i], i, 0, 0);

@@ -56,13 +56,33 @@ void draw_input(void)
     }
 }
 
-void check_answer(const char *call, hoofglaze_answer given, uint32_t number, size_t place, size_t count,
-                  uint32_t value)
+static void check_hold(const char *call, hoofglaze_answer given, hoofglaze_truncation hold)
+{
+    check(call, given.samples, hold.whole, given.number, hold.word, 0);
+    check(call, given.word, hold.word, given.number, hold.whole, 0);
+}
+
+static void check_but_hold(const char *call, hoofglaze_answer given, uint32_t number, size_t place,
+                           size_t count, uint32_t value)
 {
     check(call, given.number, number, place, count, value);
     check(call, given.place, place, number, count, value);
     check(call, given.count, count, number, place, value);
     check(call, bytes32(given.value), value, number, place, count);
+}
+
+void check_answer(const char *call, hoofglaze_answer given, uint32_t number, size_t place, size_t count,
+                  uint32_t value)
+{
+    static const hoofglaze_truncation none;
+    check_but_hold(call, given, number, place, count, value);
+    check_hold(call, given, none);
+}
+
+void check_hold_answer(const char *call, hoofglaze_answer given, hoofglaze_truncation hold)
+{
+    check_but_hold(call, given, 0, 0, 0, 0);
+    check_hold(call, given, hold);
 }
 
 /* ---- states */

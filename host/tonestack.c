@@ -22,7 +22,7 @@ static void layout(void)
         offsetof(hoofglaze_tone_registers, presence), sizeof(hoofglaze_tone),
         offsetof(hoofglaze_tone, registers), sizeof(hoofglaze_tone_answered),
         offsetof(hoofglaze_tone_answered, answer)};
-    static const size_t said[] = {28, 0, 4, 8, 12, 16, 20, 24, 16, 0, 4, 8, 12, 44, 28, 72, 48};
+    static const size_t said[] = {28, 0, 4, 8, 12, 16, 20, 24, 16, 0, 4, 8, 12, 44, 28, 88, 48};
     group("tonestack: sizes and offsets");
     for (int i = 0; i < COUNT(said); i++)
         check("layout", given[i], said[i], i, 0, 0);

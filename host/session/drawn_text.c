@@ -63,20 +63,22 @@ static void title(FILE *svg, const struct session *s)
 
 static void said(FILE *svg, const struct session *s)
 {
-    const hoofglaze_gate_settings *g = &s->run[0].gate.settings;
-    const struct passage *p = &s->run[0].passage;
+    const struct run *r = &s->run[0];
+    const hoofglaze_gate_settings *g = &r->gate.settings;
+    const struct passage *p = &r->passage;
     uint64_t all = s->recording.samples;
-    fprintf(svg, "<text x=\"20\" y=\"53\">threshold %g dB, ratio %g, attack %g ms, release %g ms, hold %g ms",
-            (double)g->threshold.decibels, (double)g->ratio, (double)g->attack, (double)g->release,
-            (double)g->hold);
+    fprintf(svg, "<text x=\"20\" y=\"53\">threshold %g dB, ratio %g, attack %g ms, release %g ms, ",
+            (double)g->threshold.decibels, (double)g->ratio, (double)g->attack, (double)g->release);
+    write_hold(svg, r);
     fprintf(svg, "; %s sample%s at %s Hz</text>\n", thousands(all), plural(all),
             thousands(s->recording.rate));
-    if (!p->spans) {
-        fputs("<text x=\"20\" y=\"73\">aimed open at none of them</text>\n", svg);
-        return;
-    }
-    fprintf(svg, "<text x=\"20\" y=\"73\">aimed open at %s of them, %.1f %%, in %s span%s</text>\n",
-            thousands(p->open), percent(p->open, all), thousands(p->spans), plural(p->spans));
+    fputs("<text x=\"20\" y=\"73\">aimed open at ", svg);
+    if (p->spans)
+        fprintf(svg, "%s of them, %.1f %%, in %s span%s", thousands(p->open), percent(p->open, all),
+                thousands(p->spans), plural(p->spans));
+    else
+        fputs("none of them", svg);
+    fprintf(svg, "%s%s</text>\n", is_cut(r->hold) ? "; " : "", is_cut(r->hold) ? cut_means : "");
 }
 
 static void swatch(FILE *svg, const char *class, int x, const char *words)

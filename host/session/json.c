@@ -28,8 +28,16 @@ static void number(FILE *to, const char *name, float value)
     fprintf(to, ",\"%s\":%.9g", name, (double)value);
 }
 
-static void settings_of(FILE *to, const hoofglaze_gate_settings *g)
+static void hold_of(FILE *to, const struct run *r)
 {
+    number(to, "hold_ms", r->gate.settings.hold);
+    fprintf(to, ",\"hold_samples\":%llu,\"hold_word\":\"%s\"", (unsigned long long)r->hold.whole,
+            hold_word(r->hold));
+}
+
+static void settings_of(FILE *to, const struct run *r)
+{
+    const hoofglaze_gate_settings *g = &r->gate.settings;
     fprintf(to, ",\"settings\":{\"threshold_db\":%.9g", (double)g->threshold.decibels);
     number(to, "factor", g->factor.factor);
     number(to, "ratio", g->ratio);
@@ -37,8 +45,7 @@ static void settings_of(FILE *to, const hoofglaze_gate_settings *g)
     number(to, "opening", g->opening);
     number(to, "release_ms", g->release);
     number(to, "closing", g->closing);
-    number(to, "hold_ms", g->hold);
-    fprintf(to, ",\"hold_samples\":%llu", (unsigned long long)hold_samples(g));
+    hold_of(to, r);
     number(to, "rising", g->rising);
     number(to, "falling", g->falling);
     fputc('}', to);
@@ -64,12 +71,13 @@ static void equaliser(FILE *to, const struct session *s)
 void json_begins(const struct session *s)
 {
     const struct recording *r = &s->recording;
-    hoofglaze_gate usual = gate_with(&s->asked->values, r->rate);
+    struct run usual = {.values = s->asked->values};
+    set_gate(&usual, r->rate);
     fputs("{\"file\":", s->json);
     text(s->json, r->name);
     fprintf(s->json, ",\"rate\":%u,\"samples\":%llu,\"ms\":%.3f", (unsigned)r->rate,
             (unsigned long long)r->samples, milliseconds(r, r->samples));
-    settings_of(s->json, &usual.settings);
+    settings_of(s->json, &usual);
     equaliser(s->json, s);
     fputs(s->asked->runs ? ",\"runs\":[" : ",\"spans\":[", s->json);
 }
@@ -88,9 +96,8 @@ static void run_of(FILE *to, const struct run *r)
     const struct passage *p = &r->passage;
     fprintf(to, "{\"threshold_db\":%.9g", (double)g->threshold.decibels);
     number(to, "factor", g->factor.factor);
-    number(to, "hold_ms", g->hold);
-    fprintf(to, ",\"hold_samples\":%llu,\"open\":%llu,\"spans\":%llu", (unsigned long long)hold_samples(g),
-            (unsigned long long)p->open, (unsigned long long)p->spans);
+    hold_of(to, r);
+    fprintf(to, ",\"open\":%llu,\"spans\":%llu", (unsigned long long)p->open, (unsigned long long)p->spans);
     if (p->spans)
         fprintf(to, ",\"first\":%llu,\"end\":%llu}", (unsigned long long)p->first,
                 (unsigned long long)p->last.to);

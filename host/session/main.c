@@ -48,7 +48,7 @@ static void make_runs(struct session *s)
     s->runs = a->runs ? a->runs : 1;
     for (int i = 0; i < s->runs; i++) {
         s->run[i].values = a->runs ? a->compared[i] : a->values;
-        s->run[i].gate = gate_with(&s->run[i].values, s->recording.rate);
+        set_gate(&s->run[i], s->recording.rate);
     }
     s->equaliser = equaliser_with(&a->equaliser, s->recording.rate);
 }

@@ -44,14 +44,18 @@ void report_empty(FILE *to, const struct session *s)
 
 void report_begins(const struct session *s)
 {
-    const hoofglaze_gate_settings *g = &s->run[0].gate.settings;
+    const struct run *r = &s->run[0];
+    const hoofglaze_gate_settings *g = &r->gate.settings;
     if (!s->recording.samples)
         return;
     report_recording(s->report, s);
     fprintf(s->report, "gate: threshold %g dB (factor %g), ratio %g, attack %g ms, release %g ms, ",
             (double)g->threshold.decibels, (double)g->factor.factor, (double)g->ratio, (double)g->attack,
             (double)g->release);
-    fprintf(s->report, "hold %g ms (%s samples)\n", (double)g->hold, thousands(hold_samples(g)));
+    write_hold(s->report, r);
+    fputc('\n', s->report);
+    if (is_cut(r->hold))
+        fprintf(s->report, "%s that was cut off; the gate holds the samples shown.\n", cut_means);
     report_equaliser(s->report, s);
 }
 

@@ -62,10 +62,11 @@ struct passage {
     uint64_t spans, open;
 };
 
-/* A gate, and what it aimed open at so far. */
+/* A gate, what the library told of its hold in samples, and what it aimed open at so far. */
 struct run {
     struct values values;
     hoofglaze_gate gate;
+    hoofglaze_truncation hold;
     struct passage passage;
 };
 

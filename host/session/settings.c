@@ -54,23 +54,37 @@ int takes_value(int setting, float value)
     return with(gate_at_rest(ANY_RATE), setting, value, ANY_RATE).answer.number == 0;
 }
 
-hoofglaze_gate gate_with(const struct values *values, uint32_t rate)
+void set_gate(struct run *r, uint32_t rate)
 {
-    hoofglaze_gate g = gate_at_rest(rate);
+    r->gate = gate_at_rest(rate);
     for (int i = 0; i < SETTINGS; i++) {
-        hoofglaze_gate_answered a = with(g, i, values->of[i], rate);
+        float value = r->values.of[i];
+        hoofglaze_gate_answered a = with(r->gate, i, value, rate);
         if (a.answer.number)
-            stop(FAILED, "the library refuses %s %g: it answers %u", settings[i].name, (double)values->of[i],
+            stop(FAILED, "the library refuses %s %g: it answers %u", settings[i].name, (double)value,
                  (unsigned)a.answer.number);
-        g = a.gate;
+        r->gate = a.gate;
+        if (i == HOLD)
+            r->hold = (hoofglaze_truncation){a.answer.samples, a.answer.word};
     }
-    return g;
 }
 
-uint64_t hold_samples(const hoofglaze_gate_settings *s)
+int is_cut(hoofglaze_truncation hold)
 {
-    float in_seconds = s->hold * 0.001f;
-    return hoofglaze_truncated(in_seconds * s->rate);
+    return hold.word != HOOFGLAZE_EXACT;
+}
+
+const char *hold_word(hoofglaze_truncation hold)
+{
+    return is_cut(hold) ? "cut" : "exact";
+}
+
+const char cut_means[] = "cut: the float product (hold*0.001)*rate had a fraction";
+
+void write_hold(FILE *to, const struct run *r)
+{
+    fprintf(to, "hold %g ms (%s sample%s, %s)", (double)r->gate.settings.hold, thousands(r->hold.whole),
+            plural(r->hold.whole), hold_word(r->hold));
 }
 
 /* ---- the equaliser */

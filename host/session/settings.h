@@ -27,11 +27,19 @@ int band_named(const char *name, size_t bytes);
 /* In Hz. */
 int centre(int band);
 
-hoofglaze_gate gate_with(const struct values *values, uint32_t rate);
+/* Makes the run's gate and sets it to the run's values. */
+void set_gate(struct run *r, uint32_t rate);
 hoofglaze_eq equaliser_with(const struct equaliser *e, uint32_t rate);
 
-/* The hold in samples. */
-uint64_t hold_samples(const hoofglaze_gate_settings *s);
+/* What the library says of a hold in samples: exact or cut. */
+const char *hold_word(hoofglaze_truncation hold);
+int is_cut(hoofglaze_truncation hold);
+
+/* What cut means. */
+extern const char cut_means[];
+
+/* Writes the run's hold, as hold 50 ms (2,400 samples, exact): no word without its samples. */
+void write_hold(FILE *to, const struct run *r);
 
 /* The unit that stands behind a value: " dB", " ms" or nothing. */
 const char *unit_words(enum unit unit);
