@@ -1,15 +1,14 @@
 -- A number from the lowest rate to the highest is whole exactly if its truncation is exact.
 -- Assumes nothing.
-use mathlib.Core.Path.{_≡_, refl, sym, ap, _∙_, subst}
-use mathlib.Core.Bool.{Bool, true, false, true≢false, _&&_, and-true, and-false}
-use Prim.Native.Nat.{ℕ, _+_, _*_, _/_, _%_, _^_, _≤_, _<_}
-use native.Mathlib.Nat.{le-trans, div-add-mod', div-le-of-le-mul, min-eq-left, mul-one, mul-right-comm, eq-of-mul-eq-mul-right}
+use mathlib.Core.Path.{_≡_, refl, sym, _∙_, subst}
+use mathlib.Core.Bool.{Bool, true, false, _&&_, and-true, and-false}
+use Prim.Native.Nat.{ℕ, _*_, _/_, _%_, _^_, _≤_}
+use native.Mathlib.Nat.{le-trans, div-add-mod', div-le-of-le-mul, min-eq-left}
 use native.Mathlib.Omega.{arith}
 use lib.IntN.{ℤ}
 use lib.Dec.{T, eqb, lit≤}
 use lib.Ieee.{Float, nan, inf, fin, binary32, up, down, eq, le, whole, toUnsigned}
-use lib.Ieee.Exact.{HasValue}
-use lib.Ieee.Fits.{and-l, and-r, down-pos}
+use lib.Ieee.Fits.{and-l, and-r}
 use lib.Ieee.Positive.{positive, num, den, own-value, values-of-le, between}
 use borrow.Author.Tests.{eqb-true, eqb-false, eq-eqb, ne-eqb, le-leb}
 use Rattle.float.specs.Truncating.{itself, exactness}
@@ -18,27 +17,14 @@ use Rattle.float.proofs.Truncating.{said-exact, said-cut}
 use Rattle.answer.specs.Figures.{f32, lowestRate, highestRate}
 use Rattle.answer.specs.Checks.{inRange, isRate}
 
--- N + r = M, both times D
-no-rest : (N M r D : ℕ) → N + r ≡ M → 0 < D → N * D ≡ M * D → r ≡ 0
-no-rest N M r D e h k = omega (arith, eq-of-mul-eq-mul-right D h N M k)
-
--- y, whose value is the whole number that m * 2 ^ e is cut to, equals m * 2 ^ e exactly if nothing was cut off
-back-is-whole : (y : Float) (m : ℕ) (e : ℤ) → HasValue y false (m * up e / down e) 1 → eq y (fin false m e) ≡ eqb (m * up e % down e) 0
+-- the whole number that m * 2 ^ e is cut to equals m * 2 ^ e exactly if nothing was cut off
+back-is-whole : (m : ℕ) (e : ℤ) → eq (itself (m * up e / down e)) (fin false m e) ≡ eqb (m * up e % down e) 0
 unfolding eq
-back-is-whole nan m e v = absurd v
-back-is-whole (inf s) m e v = absurd v
-back-is-whole (fin true k d) m e v = absurd (true≢false (v .0))
-back-is-whole (fin false k d) m e v = go (eqb (m * up e % down e) 0) refl
+back-is-whole m e = go (eqb (m * up e % down e) 0) refl
   where
-    n : ℕ
-    n = m * up e / down e
-
-    left : k * up d * down e ≡ n * down e * down d
-    left = ap (λ (z : ℕ). z * down e) (sym (mul-one (k * up d)) ∙ v .1) ∙ mul-right-comm n (down d) (down e)
-
-    go : (t : Bool) → eqb (m * up e % down e) 0 ≡ t → (eqb (k * up d * down e) (m * up e * down d) && true) ≡ t
-    go true h = rw (eq-eqb (k * up d * down e) (m * up e * down d) (left ∙ ap (λ (z : ℕ). z * down d) (omega (arith, div-add-mod' (m * up e) (down e), eqb-true (m * up e % down e) 0 h))))
-    go false h = rw (ne-eqb (k * up d * down e) (m * up e * down d) (λ g. eqb-false (m * up e % down e) 0 h (no-rest (n * down e) (m * up e) (m * up e % down e) (down d) (div-add-mod' (m * up e) (down e)) (down-pos d) (sym left ∙ g))))
+    go : (t : Bool) → eqb (m * up e % down e) 0 ≡ t → (eqb (m * up e / down e * 1 * down e) (m * up e * 1) && true) ≡ t
+    go true h = rw (eq-eqb (m * up e / down e * 1 * down e) (m * up e * 1) (omega (arith, div-add-mod' (m * up e) (down e), eqb-true (m * up e % down e) 0 h)))
+    go false h = rw (ne-eqb (m * up e / down e * 1 * down e) (m * up e * 1) (λ g. eqb-false (m * up e % down e) 0 h (omega (arith, div-add-mod' (m * up e) (down e), g))))
 
 -- ---- of x above zero, up to the highest rate
 part-most : (x : Float) → T (positive x) → T (le x (f32 highestRate 1)) → num x / den x ≤ highestRate
@@ -58,8 +44,7 @@ back-part nan p h = absurd p
 back-part (inf s) p h = absurd p
 back-part (fin true m e) p h = absurd p
 back-part (fin false m e) p h =
-    back-is-whole (itself (m * up e / down e)) m e (refl, mul-one (m * up e / down e * 1))
-    ∙ simp (le-leb (m * up e / down e) (2 ^ 24) (le-trans h (lit≤ tt)), and-true)
+    back-is-whole m e ∙ simp (le-leb (m * up e / down e) (2 ^ 24) (le-trans h (lit≤ tt)), and-true)
 
 -- ---- of x from the lowest rate to the highest
 module _ (x : Float) (ranged : inRange (f32 lowestRate 1) (f32 highestRate 1) x ≡ true) where

@@ -1,11 +1,11 @@
 -- Which word truncation says: cut of what its tests leave out, exact of what is too large for a fraction, and else whether the number given back is the one taken.
 -- Assumes nothing.
-use mathlib.Core.Path.{_≡_, refl, sym, ap, _∙_, subst}
-use mathlib.Core.Bool.{Bool, true, false, cond, true≢false, _&&_, _||_}
+use mathlib.Core.Path.{_≡_, refl, sym, ap, _∙_}
+use mathlib.Core.Bool.{Bool, true, false, cond, true≢false, _&&_}
 use Prim.Native.Nat.{ℕ, zero, suc, _+_, _*_, _/_, _%_, _^_, _≤_, _<_, min}
-use native.Mathlib.Nat.{mul-one, mul-comm, mul-right-comm, mul-pos, zero-mul, div-one, div-le-self, div-eq-of-lt, le-div-iff-mul-le, eq-of-mul-eq-mul-right}
+use native.Mathlib.Nat.{mul-one, mul-right-comm, zero-mul, div-one, div-le-self, div-eq-of-lt, le-div-iff-mul-le, eq-of-mul-eq-mul-right}
 use native.Mathlib.Omega.{arith}
-use lib.IntN.{ℤ, pos, negsuc}
+use lib.IntN.{pos, negsuc}
 use lib.Dec.{T, eqb, leb, ltb}
 use lib.Ieee.{Float, nan, inf, fin, binary32, up, down, eq, lt, fits, ofInt, toUnsigned}
 use lib.Ieee.Bits.{is-true}
@@ -14,7 +14,6 @@ use lib.Ieee.Fits.{down-pos, and-l, and-r}
 use lib.Ieee.Back.{round-whole}
 use borrow.Author.Tests.{ltb-true, ltb-false, eq-eqb, ne-eqb, eqb-true, eqb-false}
 use Rattle.float.specs.Truncating.{itself, exactness, number}
-use Rattle.float.specs.declared.Exactness.{Exactness}
 use Rattle.float.specs.declared.Exactness.the-variants.{Exact, Cut}
 
 -- ---- cut: NaN and what is -1 or below, then 2 ^ 64 and above

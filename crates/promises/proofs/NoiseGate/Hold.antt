@@ -1,10 +1,8 @@
 -- What a gate's calls tell of the hold: a done hold setting its samples and a word, every other call neither.
 -- Assumes nothing.
-use mathlib.Core.Path.{_≡_, refl, sym, ap, _∙_, subst}
+use mathlib.Core.Path.{_≡_, refl, sym, ap}
 use mathlib.Core.Logic.{_↔_}
 use mathlib.Core.Bool.{Bool, true, false, not, cond}
-use mathlib.Core.List.{List}
-use Prim.Native.Nat.{ℕ}
 use native.Mathlib.Omega.{arith}
 use lib.Dec.{T}
 use lib.Ieee.{Float, eq, toUnsigned}
@@ -18,7 +16,7 @@ use Rattle.answer.specs.declared.Refusal.the-variants.{OutOfRange, BadWorkedNum
 use Rattle.answer.specs.Refusals as Refusals
 use Rattle.answer.proofs.Told.{block-by}
 use Rattle.answer.proofs.Refusals.{never-nought}
-use Rattle.noise_gate_sample.specs.Step.{holdProduct, holdSamples, held, loud, counter}
+use Rattle.noise_gate_sample.specs.Step.{holdProduct, holdSamples, held, counter}
 use Rattle.noise_gate_settings.specs.Ranges.{inItsRange, worked, withSetting}
 use Rattle.noise_gate_settings.specs.Names.{named}
 use Rattle.noise_gate_settings.specs.declared.Setting.{Setting}
