@@ -110,7 +110,9 @@ double hoofglaze_from_bits64(uint64_t n);
  * the settings, an empty block all of it. A host may keep a state's numbers and hand them back.
  *
  * A signal may be cut into blocks anywhere: where every block is done, its outputs, the last state and the
- * sum of the counts are the same, in every stage. */
+ * sum of the counts are the same, in every stage.
+ *
+ * The last four of an answer's 40 bytes are any. */
 typedef struct {
     uint32_t number;  /* 0 done, or what it is refused by */
     float value;      /* what a call read or stepped to; +0 where it does neither, or was refused */
