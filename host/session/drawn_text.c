@@ -61,23 +61,25 @@ static void title(FILE *svg, const struct session *s)
     fputs(": what the gate meant to pass</text>\n", svg);
 }
 
-static void said(FILE *svg, const struct session *s)
+static void settings_said(FILE *svg, const struct run *r)
 {
-    const struct run *r = &s->run[0];
     const hoofglaze_gate_settings *g = &r->gate.settings;
-    const struct passage *p = &r->passage;
-    uint64_t all = s->recording.samples;
     fprintf(svg, "<text x=\"20\" y=\"53\">threshold %g dB, ratio %g, attack %g ms, release %g ms, ",
             (double)g->threshold.decibels, (double)g->ratio, (double)g->attack, (double)g->release);
     write_hold(svg, r);
-    fprintf(svg, "; %s sample%s at %s Hz</text>\n", thousands(all), plural(all),
-            thousands(s->recording.rate));
-    fputs("<text x=\"20\" y=\"73\">aimed open at ", svg);
+    fputs("</text>\n", svg);
+}
+
+static void said(FILE *svg, const struct session *s)
+{
+    const struct run *r = &s->run[0];
+    const struct passage *p = &r->passage;
+    uint64_t all = s->recording.samples;
+    settings_said(svg, r);
+    fprintf(svg, "<text x=\"20\" y=\"73\">aimed open at %s of %s sample%s at %s Hz",
+            p->spans ? thousands(p->open) : "none", thousands(all), plural(all), thousands(s->recording.rate));
     if (p->spans)
-        fprintf(svg, "%s of them, %.1f %%, in %s span%s", thousands(p->open), percent(p->open, all),
-                thousands(p->spans), plural(p->spans));
-    else
-        fputs("none of them", svg);
+        fprintf(svg, ", %.1f %%, in %s span%s", percent(p->open, all), thousands(p->spans), plural(p->spans));
     fprintf(svg, "%s%s</text>\n", is_cut(r->hold) ? "; " : "", is_cut(r->hold) ? cut_means : "");
 }
 

@@ -79,7 +79,7 @@ const char *hold_word(hoofglaze_truncation hold)
     return is_cut(hold) ? "cut" : "exact";
 }
 
-const char cut_means[] = "cut: the float product (hold*0.001)*rate had a fraction";
+const char cut_means[] = "cut: (hold*0.001)*rate as float had a fraction";
 
 void write_hold(FILE *to, const struct run *r)
 {
