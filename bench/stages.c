@@ -307,7 +307,8 @@ static int apart(const struct row *row, const struct offer *o)
     memset(aims, 0xff, sizeof aims);
     row->run(o);
     for (int i = 0; i < ROUNDS; i++) {
-        differ += said[i].number != 0 || told[i].number != 0 || told[i].count != said[i].count;
+        differ += said[i].number != 0 || told[i].number != 0 || told[i].count != said[i].count ||
+                  told[i].quiet != said[i].quiet;
         for (int j = 0; j < SAMPLES; j++)
             differ += memcmp(&output[i][j], &expected[i][j], sizeof(float)) != 0 || aims[i][j] != aimed[i][j];
     }

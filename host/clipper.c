@@ -42,6 +42,7 @@ static void refuses(clip call, const char *name, uint32_t drive, uint64_t n, uin
     check(name, a.count, 0, drive, n, m);
     check(name, a.samples, 0, drive, n, m);
     check(name, a.word, 0, drive, n, m);
+    check(name, a.quiet, 0, drive, n, m);
     check(name, bytes32(a.value), 0, drive, n, m);
     for (int i = 0; i < ROOM; i++)
         check("a refused block's output", bytes32(output[i]), UNTOUCHED + i, drive, n, i);
@@ -73,7 +74,7 @@ static uint32_t one_sample(clip call, uint32_t drive, uint32_t x)
 {
     input[0] = float_of(x);
     hoofglaze_answer a = call(float_of(drive), input, 1, output, 1);
-    check("a done block", a.number | a.place | a.count | a.samples | a.word, 0, drive, x, 0);
+    check("a done block", a.number | a.place | a.count | a.samples | a.word | a.quiet, 0, drive, x, 0);
     return bytes32(output[0]);
 }
 
@@ -81,7 +82,7 @@ static void done(void)
 {
     fill(ONE);
     hoofglaze_answer a = hoofglaze_clip_hard(float_of(ONE), input, 0, output, 0);
-    check("an empty block", a.number | a.place | a.count | a.samples | a.word, 0, 0, 0, 0);
+    check("an empty block", a.number | a.place | a.count | a.samples | a.word | a.quiet, 0, 0, 0, 0);
     check("an empty block's output", bytes32(output[0]), UNTOUCHED, 0, 0, 0);
     for (unsigned i = 0; i < sizeof known / sizeof *known; i++) {
         uint32_t x = known[i][0];
@@ -110,7 +111,7 @@ static void whole_block(clip call, const char *name)
         samples[i] = float_of((uint32_t)bits % 0x42800001u | (uint32_t)(bits >> 63 << 31));
     }
     hoofglaze_answer a = call(float_of(ONE), samples, 4096, output, 4096);
-    check(name, a.number | a.place | a.count | a.samples | a.word, 0, 0, 0, 0);
+    check(name, a.number | a.place | a.count | a.samples | a.word | a.quiet, 0, 0, 0, 0);
     for (int i = 0; i < 4096; i++) {
         uint32_t y = bytes32(output[i]);
         check(name, y, one_sample(call, ONE, bytes32(samples[i])), i, bytes32(samples[i]), 0);

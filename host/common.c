@@ -38,6 +38,7 @@ static void layout(void)
     check("answer.count", offsetof(hoofglaze_answer, count), 16, 0, 0, 0);
     check("answer.samples", offsetof(hoofglaze_answer, samples), 24, 0, 0, 0);
     check("answer.word", offsetof(hoofglaze_answer, word), 32, 0, 0, 0);
+    check("answer.quiet", offsetof(hoofglaze_answer, quiet), 36, 0, 0, 0);
     check("follower", sizeof(hoofglaze_follower), 12, 0, 0, 0);
     check("follower.attack", offsetof(hoofglaze_follower, attack), 0, 0, 0, 0);
     check("follower.release", offsetof(hoofglaze_follower, release), 4, 0, 0, 0);
@@ -99,6 +100,7 @@ static void check_told(const char *call, struct told given, uint32_t number, str
     check(call, given.answer.count, 0, state.bits[0], state.bits[1], state.bits[2]);
     check(call, given.answer.samples, 0, state.bits[0], state.bits[1], state.bits[2]);
     check(call, given.answer.word, 0, state.bits[0], state.bits[1], state.bits[2]);
+    check(call, given.answer.quiet, 0, state.bits[0], state.bits[1], state.bits[2]);
     for (int i = 0; i < 3; i++)
         check(call, given.state.bits[i], state.bits[i], number, i, state.bits[0]);
 }

@@ -20,12 +20,19 @@ static void no_setting(const char *call, hoofglaze_answer a)
     check_answer(call, a, 1, 0, 0, 0);
 }
 
+/* It tells the gate's quiet count. */
+static void gate_done_and_same(const char *call, hoofglaze_gate_answered a, const hoofglaze_gate *said)
+{
+    const size_t bytes = offsetof(hoofglaze_gate_registers, quiet) + sizeof said->registers.quiet;
+    check_block_answer(call, a.answer, 0, said->registers.quiet);
+    check(call, memcmp(&a.gate.settings, &said->settings, sizeof said->settings), 0, 0, 0, 0);
+    check(call, memcmp(&a.gate.registers, &said->registers, bytes), 0, 0, 0, 0);
+}
+
 static void gate_record(hoofglaze_gate g)
 {
     uint8_t aims[1];
-    hoofglaze_gate_answered a = hoofglaze_gate_record(g, 0, 0, 0, 0, 0, 0);
-    done_and_same("gate_record", a.answer, &a.gate.settings, &g.settings, sizeof g.settings);
-    done_and_same("gate_record", a.answer, &a.gate.registers, &g.registers, sizeof g.registers);
+    gate_done_and_same("gate_record", hoofglaze_gate_record(g, 0, 0, 0, 0, 0, 0), &g);
     check_answer("gate_record", hoofglaze_gate_record(g, 0, 0, output, 1, 0, 0).answer, 7, 0, 0, 0);
     check_answer("gate_record", hoofglaze_gate_record(g, 0, 0, 0, 0, aims, 1).answer, 7, 0, 0, 0);
     check_answer("gate_record", hoofglaze_gate_record(g, input, 1, output, 1, 0, 0).answer, 7, 0, 0, 0);
@@ -33,13 +40,14 @@ static void gate_record(hoofglaze_gate g)
     check_answer("gate_record", hoofglaze_gate_record(g, 0, 0, output, 1, aims, 1).answer, 7, 0, 0, 0);
 }
 
-static void gate(void)
+static void gate(uint32_t quiet)
 {
-    hoofglaze_gate g = hoofglaze_gate_make(48000, 0.5f, 0.5f).gate, lying = g;
-    hoofglaze_gate_answered a = hoofglaze_gate_block(g, 0, 0, 0, 0);
-    done_and_same("gate_block", a.answer, &a.gate.settings, &g.settings, sizeof g.settings);
-    done_and_same("gate_block", a.answer, &a.gate.registers, &g.registers, sizeof g.registers);
-    check_answer("gate_block_in_place", hoofglaze_gate_block_in_place(&lying, 0, 0, 0, 0), 0, 0, 0, 0);
+    hoofglaze_gate g = hoofglaze_gate_make(48000, 0.5f, 0.5f).gate, lying;
+    g.registers.quiet = quiet;
+    lying = g;
+    gate_done_and_same("gate_block", hoofglaze_gate_block(g, 0, 0, 0, 0), &g);
+    hoofglaze_answer b = hoofglaze_gate_block_in_place(&lying, 0, 0, 0, 0);
+    gate_done_and_same("gate_block_in_place", (hoofglaze_gate_answered){lying, b}, &g);
     check_answer("gate_block", hoofglaze_gate_block(g, 0, 0, output, 1).answer, 7, 0, 0, 0);
     check_answer("gate_block", hoofglaze_gate_block(g, input, 1, 0, 0).answer, 7, 0, 0, 0);
     gate_record(g);
@@ -115,7 +123,8 @@ static void recordings(void)
 void empty_checks(void)
 {
     group("a null pointer with length 0, for each buffer and each name");
-    gate();
+    gate(0);
+    gate(7);
     clipper();
     eq();
     tone();

@@ -13,11 +13,14 @@ static void layout(void)
         offsetof(hoofglaze_gate_settings, hold), offsetof(hoofglaze_gate_settings, rising),
         offsetof(hoofglaze_gate_settings, falling), sizeof(hoofglaze_gate_registers),
         offsetof(hoofglaze_gate_registers, level), offsetof(hoofglaze_gate_registers, state),
-        offsetof(hoofglaze_gate_registers, counter), sizeof(hoofglaze_gate),
-        offsetof(hoofglaze_gate, registers), sizeof(hoofglaze_gate_answered),
-        offsetof(hoofglaze_gate_answered, answer)};
-    static const size_t said[] = {4,  4,  44, 0,  4, 8, 12, 16, 20, 24, 28,
-                                  32, 36, 40, 16, 0, 4, 8,  64, 48, 104, 64};
+        offsetof(hoofglaze_gate_registers, counter), offsetof(hoofglaze_gate_registers, quiet),
+        sizeof(hoofglaze_gate), offsetof(hoofglaze_gate, registers), sizeof(hoofglaze_gate_answered),
+        offsetof(hoofglaze_gate_answered, answer), sizeof(hoofglaze_gate_registers_before),
+        offsetof(hoofglaze_gate_registers_before, level), offsetof(hoofglaze_gate_registers_before, state),
+        offsetof(hoofglaze_gate_registers_before, counter), sizeof(hoofglaze_gate_before),
+        offsetof(hoofglaze_gate_before, settings), offsetof(hoofglaze_gate_before, registers)};
+    static const size_t said[] = {4,  4,  44, 0,  4,  8,  12,  16, 20, 24, 28, 32, 36, 40, 24,
+                                  0,  4,  8,  16, 72, 48, 112, 72, 16, 0,  4,  8,  64, 0,  48};
     group("gate: sizes and offsets");
     for (size_t i = 0; i < sizeof said / sizeof said[0]; i++)
         check("layout", given[i], said[i], i, 0, 0);
@@ -43,6 +46,7 @@ void check_gate(const char *call, const hoofglaze_gate *given, const hoofglaze_g
     check(call, bytes32(given->registers.level), bytes32(said->registers.level), 11, 0, 0);
     check(call, bytes32(given->registers.state), bytes32(said->registers.state), 12, 0, 0);
     check(call, given->registers.counter, said->registers.counter, 13, 0, 0);
+    check(call, given->registers.quiet, said->registers.quiet, 14, 0, 0);
 }
 
 void check_told(const char *call, hoofglaze_gate_answered given, uint32_t number, hoofglaze_gate said)
@@ -183,7 +187,7 @@ static void settings(void)
 {
     group("gate: settings, refused by 3, then 4; by name, in place, typed; and read");
     hoofglaze_gate g = made(48000, 0.5f, 0.75f);
-    g.registers = (hoofglaze_gate_registers){3.5f, 0.25f, 77};
+    g.registers = (hoofglaze_gate_registers){3.5f, 0.25f, 77, 4100};
     for (int i = 0; i < NAMED; i++) {
         const struct named *n = &named[i];
         uint32_t values[] = {bytes32(n->lowest), bytes32(n->highest), bytes32((n->lowest + n->highest) / 2),
@@ -206,7 +210,7 @@ static void strange_names(void)
 {
     group("gate: a name that is no setting, refused by 1 before 3 and 4");
     hoofglaze_gate g = made(44100, 0, 0);
-    g.registers = (hoofglaze_gate_registers){64, 1, 96000};
+    g.registers = (hoofglaze_gate_registers){64, 1, 96000, UINT32_MAX};
     for (int i = 0; i <= COUNT(strange); i++) {
         /* the last name has a byte 0 in it */
         const char *name = i < COUNT(strange) ? strange[i] : "hold";

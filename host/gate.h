@@ -1,5 +1,5 @@
-/* What the checks of the gate share: how a call's answer and gate are held to what they must be, and
- * settings by their number. */
+/* What the checks of the gate share: how a call's answer and gate are held to what they must be, settings by
+ * their number, and the three forms of a block. */
 #ifndef GATE_H
 #define GATE_H
 
@@ -42,6 +42,20 @@ hoofglaze_gate heard(hoofglaze_gate g);
 /* Silence, one sample, and silence again, one by one, with a record and in blocks: a gate whose level is a
  * sample's size aims open at so many, from that sample on. */
 void check_holds(hoofglaze_gate g, float loud, size_t open);
+
+/* The calls that run a block: by value, in place, and with a record, whose aims are left below. */
+enum { FORMS = 3 };
+
+extern const struct form {
+    const char *name;
+    hoofglaze_gate_answered (*run)(hoofglaze_gate g, const float *from, size_t n, float *to, size_t m);
+} forms[FORMS];
+
+extern uint8_t aims_of_form[ROOM];
+
+/* A block that is done: each form tells that quiet count and leaves it in the gate, and all else that they give
+ * is the same. Gives the gate after it. */
+hoofglaze_gate check_quiet(hoofglaze_gate g, const float *from, size_t n, uint32_t quiet);
 
 void gate_block_checks(void);
 

@@ -26,7 +26,7 @@ static void refused_blocks(void)
 {
     group("gate: blocks refused by 7, 8, 6");
     hoofglaze_gate g = made(48000, 0.5f, 0.5f);
-    g.registers = (hoofglaze_gate_registers){1.5f, 0.5f, 9};
+    g.registers = (hoofglaze_gate_registers){1.5f, 0.5f, 9, 21};
     static const uint32_t samples[] = {SIXTY_FOUR + 1, SIGN + SIXTY_FOUR + 1, INFINITE, SIGN + INFINITE,
                                        QUIET32, ODD_NAN, INFINITE + 1, INFINITE - 1};
     static const size_t places[] = {0, 1, 2, 77, LONGEST - 2, LONGEST - 1};
@@ -81,7 +81,7 @@ static const uint32_t highest[SETTINGS] = {0x483b8000, 0, ONE, 0x42c80000, 0x42c
 static void check_accepted(hoofglaze_gate g)
 {
     hoofglaze_gate said = g;
-    said.registers = (hoofglaze_gate_registers){0, 0, 0};
+    said.registers = (hoofglaze_gate_registers){0, 0, 0, 0};
     check_told("gate_reset", hoofglaze_gate_reset(g), 0, said);
     hoofglaze_gate_answered lying = {.gate = g};
     lying.answer = hoofglaze_gate_reset_in_place(&lying.gate);
@@ -93,7 +93,7 @@ static void bad_states(void)
     group("gate: states refused by 9, and those at their bounds");
     quiet_input();
     hoofglaze_gate g = made(48000, 0.5f, 0.25f);
-    g.registers = (hoofglaze_gate_registers){64, 1, 96000};
+    g.registers = (hoofglaze_gate_registers){64, 1, 96000, UINT32_MAX};
     check_accepted(g);
     for (int i = 0; i < SETTINGS; i++) {
         check_accepted(with_setting(g, i, lowest[i]));
@@ -128,14 +128,14 @@ static hoofglaze_gate check_block(hoofglaze_gate g, size_t samples)
     fill_output();
     hoofglaze_gate lying = g;
     hoofglaze_answer b = hoofglaze_gate_block_in_place(&lying, input, samples, output, samples);
-    check_answer("gate_block_in_place", b, 0, 0, count, 0);
+    check_block_answer("gate_block_in_place", b, count, said.registers.quiet);
     check_gate("gate_block_in_place", &lying, &said);
     for (size_t i = 0; i < ROOM; i++)
         wrong += bytes32(output[i]) != (i < samples ? bytes32(expected[i]) : buffer_bits(i));
     check("gate_block_in_place", wrong, 0, samples, 0, 0);
     fill_output();
     hoofglaze_gate_answered a = hoofglaze_gate_block(g, input, samples, output, samples);
-    check_answer("gate_block", a.answer, 0, 0, count, 0);
+    check_block_answer("gate_block", a.answer, count, said.registers.quiet);
     check_gate("gate_block", &a.gate, &said);
     for (size_t i = 0; i < ROOM; i++) {
         check("gate_block", bytes32(output[i]), i < samples ? bytes32(expected[i]) : buffer_bits(i),
@@ -189,6 +189,7 @@ static void kept_states(void)
         hoofglaze_gate_answered b = hoofglaze_gate_block(handed, input + first, LONGEST - first,
                                                          output + first, LONGEST - first);
         check("count", a.answer.count + b.answer.count, whole.answer.count, first, i, 0);
+        check("quiet", b.answer.quiet, whole.answer.quiet, first, i, 0);
         check_gate("gate_block", &b.gate, &whole.gate);
         for (int j = 0; j < LONGEST; j++)
             wrong += bytes32(output[j]) != bytes32(expected[j]);

@@ -48,7 +48,7 @@ static struct tally tallied(uint32_t rate)
 {
     struct tally t = {0, 0, 0};
     hoofglaze_gate g = at_rate((float)rate);
-    g.registers = (hoofglaze_gate_registers){0.125f, 0.25f, 77};
+    g.registers = (hoofglaze_gate_registers){0.125f, 0.25f, 77, 1u << 31};
     for (uint32_t ms = 0; ms < MILLISECONDS; ms++) {
         hoofglaze_answer a = check_set_hold(g, (float)ms).answer;
         int is_cut = a.word == HOOFGLAZE_CUT;
@@ -159,23 +159,30 @@ static void other_settings(hoofglaze_gate g)
     }
 }
 
-/* A block of the first so many samples, of which the third is refused. */
+/* Of the samples below the first is loud, the second isn't, and the third is refused. */
+static void check_other_block(const char *call, hoofglaze_answer a, size_t n, size_t count)
+{
+    if (n == 3)
+        check_answer(call, a, 6, 2, 0, 0);
+    else
+        check_block_answer(call, a, count, n == 2);
+}
+
+/* A block of the first so many samples. */
 static void other_blocks(hoofglaze_gate g, size_t n)
 {
     static const float sound[] = {0.5f, 0.25f, 65};
     float output[COUNT(sound)];
     uint8_t aims[COUNT(sound)];
     hoofglaze_gate lying = hoofglaze_gate_reset(g).gate;
-    uint32_t number = n == 3 ? 6 : 0;
-    size_t place = n == 3 ? 2 : 0, count = 0;
-    for (size_t i = 0; i < n && number == 0; i++)
+    size_t count = 0;
+    for (size_t i = 0; i < n; i++)
         count += i == 0 || i < held(g.settings.hold, g.settings.rate).whole;
-    hoofglaze_answer a = hoofglaze_gate_block(lying, sound, n, output, n).answer;
-    check_answer("gate_block", a, number, place, count, 0);
-    a = hoofglaze_gate_record(lying, sound, n, output, n, aims, n).answer;
-    check_answer("gate_record", a, number, place, count, 0);
-    a = hoofglaze_gate_block_in_place(&lying, sound, n, output, n);
-    check_answer("gate_block_in_place", a, number, place, count, 0);
+    check_other_block("gate_block", hoofglaze_gate_block(lying, sound, n, output, n).answer, n, count);
+    check_other_block("gate_record", hoofglaze_gate_record(lying, sound, n, output, n, aims, n).answer, n,
+                      count);
+    check_other_block("gate_block_in_place", hoofglaze_gate_block_in_place(&lying, sound, n, output, n), n,
+                      count);
 }
 
 static void other_calls(hoofglaze_gate g)

@@ -118,7 +118,7 @@ static void check_former(const char *call, hoofglaze_gate g)
 static void holds_as_kept(void)
 {
     group("gate: a kept one holds as it was kept, 50 ms; so does a made one that is set to it");
-    hoofglaze_gate g = gate_of(kept, (hoofglaze_gate_registers){0, 1, 300});
+    hoofglaze_gate g = gate_of(kept, (hoofglaze_gate_registers){0, 1, 300, 5});
     memset(sound, 0, sizeof sound);
     check_open(g, 0, 299, 400);
     check_former("gate_reset", hoofglaze_gate_reset(g).gate);

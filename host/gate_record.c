@@ -60,7 +60,10 @@ static void check_at(const struct record *r, int output_at_end)
         memcpy(said_aims + behind, aimed, r->bytes);
     }
     hoofglaze_answer said = r->said.answer;
-    check_answer("gate_record", a.answer, said.number, said.place, said.count, 0);
+    if (said.number == 0)
+        check_block_answer("gate_record", a.answer, said.count, said.quiet);
+    else
+        check_answer("gate_record", a.answer, said.number, said.place, 0, 0);
     check_gate("gate_record", &a.gate, &r->said.gate);
     check_bytes("gate_record's output", to, said_output, all, r->samples);
     check_bytes("gate_record's aims", aims, said_aims, marks, r->samples);
@@ -99,7 +102,7 @@ void check_record_refused_by_9(hoofglaze_gate g)
 static hoofglaze_gate at_work(void)
 {
     hoofglaze_gate g = made(48000, 0.5f, 0.5f);
-    g.registers = (hoofglaze_gate_registers){1.5f, 0.5f, 9};
+    g.registers = (hoofglaze_gate_registers){1.5f, 0.5f, 9, 33};
     return g;
 }
 
@@ -247,7 +250,7 @@ static void counter_put_in(void)
     hoofglaze_gate g = made(8000, 0, 0);
     g.registers.counter = 2;
     hoofglaze_gate_answered a = hoofglaze_gate_record(g, silence, 3, output, 3, given, 3);
-    check_answer("gate_record", a.answer, 0, 0, 1, 0);
+    check_block_answer("gate_record", a.answer, 1, 3);
     check_bytes("gate_record", given, aims, sizeof aims, 0);
 }
 
@@ -266,6 +269,7 @@ static void cut_records(void)
         hoofglaze_gate_answered c =
             hoofglaze_gate_record(b.gate, input + m, last, output + m, last, aims + m, last);
         check("count", a.answer.count + b.answer.count + c.answer.count, whole.answer.count, n, m, 0);
+        check("quiet", c.answer.quiet, whole.answer.quiet, n, m, 0);
         check_gate("gate_record", &c.gate, &whole.gate);
         check_bytes("gate_record's output", (uint8_t *)output, (uint8_t *)blocked, 4 * LONGEST, n);
         check_bytes("gate_record's aims", aims, whole_aims, n, n);

@@ -14,7 +14,7 @@
 #include <stdint.h>
 
 /* Grows by one with each release that a host can tell from the one before; docs/RELEASES.md says how. */
-#define HOOFGLAZE_VERSION 8
+#define HOOFGLAZE_VERSION 9
 
 #ifdef __cplusplus
 extern "C" {
@@ -27,7 +27,7 @@ extern "C" {
  * counted: it takes nothing where a program is linked with -z now. */
 enum {
     HOOFGLAZE_STACK_FLOAT = 256, /* float arithmetic, follower and DC blocker */
-    HOOFGLAZE_STACK_GATE = 768,
+    HOOFGLAZE_STACK_GATE = 1024,
     HOOFGLAZE_STACK_CLIP = 1280,
     HOOFGLAZE_STACK_EQ = 6144,
     HOOFGLAZE_STACK_TONE = 512,
@@ -110,9 +110,7 @@ double hoofglaze_from_bits64(uint64_t n);
  * the settings, an empty block all of it. A host may keep a state's numbers and hand them back.
  *
  * A signal may be cut into blocks anywhere: where every block is done, its outputs, the last state and the
- * sum of the counts are the same, in every stage.
- *
- * The last four of an answer's 40 bytes are any. */
+ * sum of the counts are the same, in every stage. */
 typedef struct {
     uint32_t number;  /* 0 done, or what it is refused by */
     float value;      /* what a call read or stepped to; +0 where it does neither, or was refused */
@@ -120,6 +118,7 @@ typedef struct {
     size_t count;     /* how many samples of a done block were aimed open; else 0 */
     uint64_t samples; /* H, the hold in samples, of a gate's hold that was set; else 0 */
     uint32_t word;    /* of that H: HOOFGLAZE_EXACT or HOOFGLAZE_CUT; else 0 */
+    uint32_t quiet;   /* the quiet count after the last sample of a gate's done block; else 0 */
 } hoofglaze_answer;
 
 /* ---- Worked numbers
@@ -186,7 +185,8 @@ hoofglaze_blocker_answered hoofglaze_blocker_reset(hoofglaze_blocker b);
  * counter above 0 drops by one. Aim open = loud or counter > 0; target 1 or 0. If target > state, c =
  * attack's number, else release's; state = fma(c, state, (1-c)*target). If state < 0.999, g = 1/ratio and
  * gain = fma(1-g, state, g); else 1. Output = input*gain. H, the hold in samples, is the truncation of
- * (hold*0.001)*rate. All in float, each operation rounded.
+ * (hold*0.001)*rate. All in float, each operation rounded. The quiet count, which nothing else depends on, is
+ * 0 after a loud sample, and one more after any other; it stops at 4,294,967,295.
  *
  * Decibels and linear factors are kept apart; neither is ever accepted for the other. */
 
@@ -215,6 +215,7 @@ typedef struct {
     float level;      /* 0 to 64 */
     float state;      /* 0 to 1 */
     uint64_t counter; /* 0 to 96,000 */
+    uint32_t quiet;   /* any */
 } hoofglaze_gate_registers;
 
 typedef struct {
@@ -222,20 +223,37 @@ typedef struct {
     hoofglaze_gate_registers registers;
 } hoofglaze_gate;
 
+/* A gate as versions before 9 have it, without a quiet count: its 64 bytes are the first of today's 72. */
+typedef struct {
+    float level;
+    float state;
+    uint64_t counter;
+} hoofglaze_gate_registers_before;
+
+typedef struct {
+    hoofglaze_gate_settings settings;
+    hoofglaze_gate_registers_before registers;
+} hoofglaze_gate_before;
+
 typedef struct {
     hoofglaze_gate gate;
     hoofglaze_answer answer;
 } hoofglaze_gate_answered;
 
 /* A gate at rest: threshold 0 dB, factor 1; ratio 10; attack 1 ms; release 100 ms; hold 100 ms; attack's
- * and release's smoothing numbers 0; level, state and counter 0. Refused by 5, then 4, with a gate whose
- * numbers are all 0, the rate too, which 9 refuses ever after. */
+ * and release's smoothing numbers 0; level, state, counter and quiet count 0. Refused by 5, then 4, with a
+ * gate whose numbers are all 0, the rate too, which 9 refuses ever after. */
 hoofglaze_gate_answered hoofglaze_gate_make(float rate, float rising, float falling);
+
+/* Today's gate for one that a version before 9 kept: its quiet count is 0, and every other bit is as it was.
+ * It refuses nothing: what 9 refuses, it refuses at the next call. Outputs, states, aims and open counts then
+ * go on as they would have, and the quiet count is counted from here. */
+hoofglaze_gate hoofglaze_gate_load(hoofglaze_gate_before g);
 
 /* A setting by its name, the bytes threshold, ratio, attack, release or hold, with its value in the unit
  * above and its worked number (threshold: the factor; attack, release: the smoothing number), which ratio
- * and hold don't look at: 9, 1, 3, 4. Level, state and counter stay; so does a running counter when the
- * hold is changed.
+ * and hold don't look at: 9, 1, 3, 4. Level, state, counter and quiet count stay; so does a running counter
+ * when the hold is changed.
  *
  * Where the hold is set, the answer has H, and exact or cut: the word of H's truncation. It speaks of the
  * float product (hold*0.001)*rate and not of hold*rate/1000: 1/16 ms at 48,000 Hz is 3 samples, but that
@@ -256,11 +274,14 @@ hoofglaze_gate_answered hoofglaze_gate_set_hold(hoofglaze_gate g, float value);
 /* The answer's value is the setting of that name; of the threshold, the dB last set: 9, 1. */
 hoofglaze_answer hoofglaze_gate_read(hoofglaze_gate g, const uint8_t *name, size_t bytes);
 
-/* Level, state and counter 0, settings kept: 9. */
+/* Level, state, counter and quiet count 0, settings kept: 9. */
 hoofglaze_gate_answered hoofglaze_gate_reset(hoofglaze_gate g);
 
 /* A block of samples from one buffer into another of the same length, at most 4,096: 9, 7, 8, 6. An empty
- * block is done. The count is that of the samples at which the gate aimed open. */
+ * block is done. The count is that of the samples at which the gate aimed open. Of a gate that was made, and
+ * that these calls alone have changed, the quiet count is how many samples of done blocks came after the latest
+ * loud one, or where none was loud since making or the last reset, how many came since; 4,294,967,295 stands
+ * for that many and more. An empty block tells the gate's. */
 hoofglaze_gate_answered hoofglaze_gate_block(hoofglaze_gate g, const float *input, size_t samples,
                                              float *output, size_t places);
 
@@ -274,7 +295,8 @@ hoofglaze_gate_answered hoofglaze_gate_record(hoofglaze_gate g, const float *inp
                                               float *output, size_t places, uint8_t *aims, size_t bytes);
 
 /* A setting, a reset and a block on the host's own gate, changed where it lies: its settings and its registers
- * are written, and no other byte; the four between them stay. In a gate that is given back by value they are
+ * are written, and the four bytes between them stay. The last four bytes of a gate, behind its quiet count, are
+ * any after a call that is done, and stay in a refused one. In a gate that is given back by value both are
  * any. */
 hoofglaze_answer hoofglaze_gate_set_in_place(hoofglaze_gate *g, const uint8_t *name, size_t bytes,
                                              float value, float worked);

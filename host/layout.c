@@ -11,8 +11,10 @@ _Static_assert(sizeof(hoofglaze_written) == 8, "a recording that is written");
 _Static_assert(sizeof(hoofglaze_follower) == 12 && sizeof(hoofglaze_follower_answered) == 56, "a follower");
 _Static_assert(sizeof(hoofglaze_blocker) == 12 && sizeof(hoofglaze_blocker_answered) == 56, "a blocker");
 _Static_assert(sizeof(hoofglaze_decibels) == 4 && sizeof(hoofglaze_factor) == 4, "a float each");
-_Static_assert(sizeof(hoofglaze_gate_settings) == 44 && sizeof(hoofglaze_gate_registers) == 16, "a gate");
-_Static_assert(sizeof(hoofglaze_gate) == 64 && sizeof(hoofglaze_gate_answered) == 104, "a gate answered");
+_Static_assert(sizeof(hoofglaze_gate_settings) == 44 && sizeof(hoofglaze_gate_registers) == 24, "a gate");
+_Static_assert(sizeof(hoofglaze_gate) == 72 && sizeof(hoofglaze_gate_answered) == 112, "a gate answered");
+_Static_assert(sizeof(hoofglaze_gate_registers_before) == 16 && sizeof(hoofglaze_gate_before) == 64,
+               "a gate as it was before version 9");
 _Static_assert(sizeof(hoofglaze_leveller) == 40 && sizeof(hoofglaze_leveller_answered) == 80, "a leveller");
 _Static_assert(sizeof(hoofglaze_eq) == 1288 && sizeof(hoofglaze_eq_answered) == 1328, "an equaliser");
 _Static_assert(sizeof(hoofglaze_tone) == 44 && sizeof(hoofglaze_tone_answered) == 88, "a tone stack");
@@ -40,7 +42,6 @@ static void check_floats(const char *call, const void *from, size_t place, const
         check(call, word_at(from, place + 4 * i), bytes32(said[i]), place + 4 * i, 0, 0);
 }
 
-/* Its last four bytes are any. */
 static void check_whole_answer_at(const char *call, const void *from, size_t place, hoofglaze_answer said)
 {
     check(call, word_at(from, place), said.number, place, 0, 0);
@@ -49,6 +50,7 @@ static void check_whole_answer_at(const char *call, const void *from, size_t pla
     check(call, long_at(from, place + 16), said.count, place + 16, 0, 0);
     check(call, long_at(from, place + 24), said.samples, place + 24, 0, 0);
     check(call, word_at(from, place + 32), said.word, place + 32, 0, 0);
+    check(call, word_at(from, place + 36), said.quiet, place + 36, 0, 0);
 }
 
 static void check_answer_at(const char *call, const void *from, size_t place, uint32_t number, float value,
@@ -99,17 +101,33 @@ static hoofglaze_gate set_gate(void)
     return hoofglaze_gate_set_hold(g, settings[8]).gate;
 }
 
+/* Two samples are loud, and the third, at half the factor, isn't; the fourth is refused. */
+static const float heard[] = {0.5f, 0.25f, 0, 65};
+
+/* The registers after those three, and the answer behind them. */
+static void check_three(const char *call, const hoofglaze_gate_answered *a)
+{
+    check_floats(call, a, 0, settings, 11);
+    check_floats(call, a, 48, (float[]){0.0625f, 0.578125f}, 2);
+    check(call, long_at(a, 56), 881, 56, 0, 0);
+    check(call, word_at(a, 64), 1, 64, 0, 0);
+    check_whole_answer_at(call, a, 72, (hoofglaze_answer){.count = 3, .quiet = 1});
+}
+
 static void gate_given(void)
 {
-    const float input[] = {0.5f, 0.25f, 1, 65};
     float output[4];
-    hoofglaze_gate_answered a = hoofglaze_gate_block(set_gate(), input, 2, output, 2);
+    hoofglaze_gate_answered a = hoofglaze_gate_block(set_gate(), heard, 2, output, 2);
     check_floats("gate_block", &a, 0, settings, 11);
     check_floats("gate_block", &a, 48, (float[]){0.25f, 0.4375f}, 2);
     check("gate_block", long_at(&a, 56), 882, 56, 0, 0);
-    check_answer_at("gate_block", &a, 64, 0, 0, 0, 2);
-    a = hoofglaze_gate_block(a.gate, input, 4, output, 4);
-    check_answer_at("gate_block", &a, 64, 6, 0, 3, 0);
+    check("gate_block", word_at(&a, 64), 0, 64, 0, 0);
+    check_answer_at("gate_block", &a, 72, 0, 0, 0, 2);
+    a = hoofglaze_gate_block(set_gate(), heard, 3, output, 3);
+    check_three("gate_block", &a);
+    a = hoofglaze_gate_block(a.gate, heard, 4, output, 4);
+    check_answer_at("gate_block", &a, 72, 6, 0, 3, 0);
+    check("gate_block", word_at(&a, 64), 1, 64, 0, 0);
     hoofglaze_answer r = hoofglaze_gate_read(a.gate, (const uint8_t *)"release", 7);
     check_answer_at("gate_read", &r, 0, 0, 70, 0, 0);
 }
@@ -118,9 +136,9 @@ static void hold_at(float hold, hoofglaze_answer said)
 {
     hoofglaze_gate g = set_gate();
     hoofglaze_gate_answered a = hoofglaze_gate_set_hold(g, hold);
-    check_whole_answer_at("gate_set_hold", &a, 64, said);
+    check_whole_answer_at("gate_set_hold", &a, 72, said);
     a = hoofglaze_gate_set(g, (const uint8_t *)"hold", 4, hold, 0);
-    check_whole_answer_at("gate_set", &a, 64, said);
+    check_whole_answer_at("gate_set", &a, 72, said);
     hoofglaze_answer b = hoofglaze_gate_set_in_place(&g, (const uint8_t *)"hold", 4, hold, 0);
     check_whole_answer_at("gate_set_in_place", &b, 0, said);
 }
@@ -136,26 +154,24 @@ static void hold_given(void)
 /* The aims' length is the argument that lies behind the gate. */
 static void record_given(void)
 {
-    const float input[] = {0.5f, 0.25f, 0};
     float output[3];
-    uint8_t aims[3] = {7, 7, 7};
-    hoofglaze_gate_answered a = hoofglaze_gate_record(set_gate(), input, 2, output, 2, aims, 2);
-    check_floats("gate_record", &a, 0, settings, 11);
-    check_floats("gate_record", &a, 48, (float[]){0.25f, 0.4375f}, 2);
-    check("gate_record", long_at(&a, 56), 882, 56, 0, 0);
-    check_answer_at("gate_record", &a, 64, 0, 0, 0, 2);
-    check("gate_record", aims[0] << 16 | aims[1] << 8 | aims[2], 0x010107, 0, 0, 0);
-    a = hoofglaze_gate_record(a.gate, input, 3, output, 3, aims, 2);
-    check_answer_at("gate_record", &a, 64, 7, 0, 0, 0);
-    check("gate_record", long_at(&a, 56), 882, 56, 0, 0);
+    uint8_t aims[4] = {7, 7, 7, 7};
+    hoofglaze_gate_answered a = hoofglaze_gate_record(set_gate(), heard, 3, output, 3, aims, 3);
+    check_three("gate_record", &a);
+    check("gate_record", aims[0] << 24 | aims[1] << 16 | aims[2] << 8 | aims[3], 0x01010107, 0, 0, 0);
+    a = hoofglaze_gate_record(a.gate, heard, 3, output, 3, aims, 2);
+    check_answer_at("gate_record", &a, 72, 7, 0, 0, 0);
+    check("gate_record", long_at(&a, 56), 881, 56, 0, 0);
+    check("gate_record", word_at(&a, 64), 1, 64, 0, 0);
 }
 
 /* A gate from bytes that were never one: a block of it steps from these numbers. */
 static void gate_handed_back(void)
 {
-    uint8_t bytes[64];
+    uint8_t bytes[72];
     const float level = 2, state = 0.5f, input = 0;
     const uint64_t counter = 7;
+    const uint32_t quiet = 0x12345678;
     float output;
     hoofglaze_gate g;
     memset(bytes, 0xaa, sizeof bytes);
@@ -164,12 +180,32 @@ static void gate_handed_back(void)
     memcpy(bytes + 48, &level, sizeof level);
     memcpy(bytes + 52, &state, sizeof state);
     memcpy(bytes + 56, &counter, sizeof counter);
+    memcpy(bytes + 64, &quiet, sizeof quiet);
     memcpy(&g, bytes, sizeof g);
     hoofglaze_answer a = hoofglaze_gate_block_in_place(&g, &input, 1, &output, 1);
-    check_answer_at("gate_block_in_place", &a, 0, 0, 0, 0, 1);
+    check_whole_answer_at("gate_block_in_place", &a, 0, (hoofglaze_answer){.count = 1, .quiet = 0x12345679});
     check_floats("gate_block_in_place", &g, 48, (float[]){0.5f, 0.625f}, 2);
     check("gate_block_in_place", long_at(&g, 56), 6, 56, 0, 0);
+    check("gate_block_in_place", word_at(&g, 64), 0x12345679, 64, 0, 0);
     check_floats("gate_block_in_place", &g, 12, settings + 3, 8);
+}
+
+/* The bytes of a gate of the versions before 9: today's are the same, with the count behind them. */
+static void gate_loaded(void)
+{
+    uint8_t bytes[64];
+    hoofglaze_gate_before before;
+    hoofglaze_gate g;
+    for (size_t i = 0; i < sizeof bytes; i++)
+        bytes[i] = (uint8_t)(3 * i + 1);
+    memcpy(&before, bytes, sizeof before);
+    memset(&g, 0xaa, sizeof g);
+    g = hoofglaze_gate_load(before);
+    for (size_t i = 0; i < 44; i += 4)
+        check("gate_load", word_at(&g, i), word_at(bytes, i), i, 0, 0);
+    check("gate_load", long_at(&g, 48), long_at(bytes, 48), 48, 0, 0);
+    check("gate_load", long_at(&g, 56), long_at(bytes, 56), 56, 0, 0);
+    check("gate_load", word_at(&g, 64), 0, 64, 0, 0);
 }
 
 /* Every number of this leveller is another one, but for the ratio and makeup. */
@@ -267,6 +303,7 @@ void layout_checks(void)
     hold_given();
     record_given();
     gate_handed_back();
+    gate_loaded();
     leveller_given();
     leveller_handed_back();
     recording();

@@ -14,6 +14,7 @@ enum { NOT = RATE * 25 / 100, COMFORTABLE = RATE * 29 / 100, END = RATE * 95 / 1
 
 static uint8_t bytes[2 * MOST];
 static float recording[MOST], level[MOST], output[MOST];
+static uint32_t quiet[MOST];
 static int samples;
 
 /* Signed 16-bit little-endian samples at 48,000 Hz, each n/32768. */
@@ -74,7 +75,7 @@ static void add(struct passage *p, int i)
         p->spans[p->count++] = (struct span){i, i + 1};
 }
 
-/* As the library counts, a sample a block; the level after each and the output are kept. */
+/* As the library counts, a sample a block; level and quiet count after each, and the output, are kept. */
 static struct passage passed(hoofglaze_gate g)
 {
     struct passage p = {.count = 0};
@@ -82,6 +83,7 @@ static struct passage passed(hoofglaze_gate g)
         hoofglaze_answer a = hoofglaze_gate_block_in_place(&g, &recording[i], 1, &output[i], 1);
         check("a block of one sample is done", a.number, 0, i, 0, 0);
         level[i] = g.registers.level;
+        quiet[i] = a.quiet;
         if (a.count == 1)
             add(&p, i);
     }
@@ -118,6 +120,7 @@ static struct passage expected(const hoofglaze_gate_settings *s)
         check("level", bytes32(level[i]), bytes32(now), i, 0, 0);
         if (now > s->factor.factor)
             latest = i;
+        check("quiet count", quiet[i], (uint64_t)(i - latest), i, 0, 0);
         if (latest == i || (latest >= 0 && i - latest < hold))
             add(&p, i);
     }

@@ -64,6 +64,7 @@ void path_fill(void)
 
 /* What the calls give; nothing looks at it. */
 static hoofglaze_answer answer;
+static hoofglaze_gate loaded;
 static hoofglaze_gate_answered gated;
 static hoofglaze_eq_answered equalised;
 static hoofglaze_tone_answered toned;
@@ -77,9 +78,11 @@ static void gate_settings(hoofglaze_gate g, hoofglaze_gate bad)
 {
     const hoofglaze_decibels quiet = {-12};
     const hoofglaze_factor quarter = {0.25f};
+    const hoofglaze_gate_before before = {.settings = g.settings};
     SAME(gated = hoofglaze_gate_make(48000, 0.5f, 0.5f));
     SAME(gated = hoofglaze_gate_make(4, 0.5f, 0.5f));
     SAME(gated = hoofglaze_gate_make(48000, 0.5f, 1));
+    SAME(loaded = hoofglaze_gate_load(before));
     SAME(gated = hoofglaze_gate_set(g, NAME("threshold"), -12, 0.25f));
     SAME(gated = hoofglaze_gate_set(g, NAME("ratio"), 3, 0));
     SAME(gated = hoofglaze_gate_set(g, NAME("attack"), 3, 0.5f));

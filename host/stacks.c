@@ -37,6 +37,7 @@ static void (*volatile enter)(void) = stack_enter;
 /* ---- what the calls are called with */
 
 static hoofglaze_gate gate, host_gate;
+static hoofglaze_gate_before gate_before;
 static hoofglaze_eq eq;
 static hoofglaze_tone tone;
 static hoofglaze_saturator saturator;

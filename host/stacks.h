@@ -4,6 +4,7 @@
 #define STACKS_H
 
 #define GATE_BYTES sizeof(hoofglaze_gate)
+#define GATE_BEFORE_BYTES sizeof(hoofglaze_gate_before)
 #define GATE_RECORD_BYTES (GATE_BYTES + sizeof(size_t)) /* the aims' length, for which no register is left */
 #define EQ_BYTES sizeof(hoofglaze_eq)
 #define EQ_SET_BYTES (EQ_BYTES + sizeof(hoofglaze_eq_numbers))
@@ -35,6 +36,7 @@
     X(hoofglaze_blocker_step, FLOAT, 0, blocker, small[0])                                                 \
     X(hoofglaze_blocker_reset, FLOAT, 0, blocker)                                                          \
     X(hoofglaze_gate_make, GATE, 0, rate, worked, worked)                                                  \
+    X(hoofglaze_gate_load, GATE, GATE_BEFORE_BYTES, gate_before)                                           \
     X(hoofglaze_gate_set, GATE, GATE_BYTES, gate, NAME, value, worked)                                     \
     X(hoofglaze_gate_set_threshold, GATE, GATE_BYTES, gate, decibels, factor)                              \
     X(hoofglaze_gate_set_ratio, GATE, GATE_BYTES, gate, value)                                             \

@@ -56,14 +56,19 @@ void draw_input(void)
     }
 }
 
-static void check_hold(const char *call, hoofglaze_answer given, hoofglaze_truncation hold)
+static const hoofglaze_truncation no_hold;
+
+/* What a gate's answers alone can tell. */
+static void check_gates_own(const char *call, hoofglaze_answer given, hoofglaze_truncation hold,
+                            uint32_t quiet)
 {
     check(call, given.samples, hold.whole, given.number, hold.word, 0);
     check(call, given.word, hold.word, given.number, hold.whole, 0);
+    check(call, given.quiet, quiet, given.number, given.count, 0);
 }
 
-static void check_but_hold(const char *call, hoofglaze_answer given, uint32_t number, size_t place,
-                           size_t count, uint32_t value)
+static void check_stages(const char *call, hoofglaze_answer given, uint32_t number, size_t place, size_t count,
+                         uint32_t value)
 {
     check(call, given.number, number, place, count, value);
     check(call, given.place, place, number, count, value);
@@ -74,15 +79,20 @@ static void check_but_hold(const char *call, hoofglaze_answer given, uint32_t nu
 void check_answer(const char *call, hoofglaze_answer given, uint32_t number, size_t place, size_t count,
                   uint32_t value)
 {
-    static const hoofglaze_truncation none;
-    check_but_hold(call, given, number, place, count, value);
-    check_hold(call, given, none);
+    check_stages(call, given, number, place, count, value);
+    check_gates_own(call, given, no_hold, 0);
 }
 
 void check_hold_answer(const char *call, hoofglaze_answer given, hoofglaze_truncation hold)
 {
-    check_but_hold(call, given, 0, 0, 0, 0);
-    check_hold(call, given, hold);
+    check_stages(call, given, 0, 0, 0, 0);
+    check_gates_own(call, given, hold, 0);
+}
+
+void check_block_answer(const char *call, hoofglaze_answer given, size_t count, uint32_t quiet)
+{
+    check_stages(call, given, 0, 0, count, 0);
+    check_gates_own(call, given, no_hold, quiet);
 }
 
 /* ---- states */

@@ -40,12 +40,15 @@ void quiet_input(void);
 /* Stretches of loud, low and silent samples, and the ends of what a sample may be. */
 void draw_input(void);
 
-/* An answer that tells no hold. */
+/* An answer that tells no hold and no quiet count. */
 void check_answer(const char *call, hoofglaze_answer given, uint32_t number, size_t place, size_t count,
                   uint32_t value);
 
 /* The answer to a gate's hold that was set: it tells this and nothing else. */
 void check_hold_answer(const char *call, hoofglaze_answer given, hoofglaze_truncation hold);
+
+/* The answer to a gate's block that was done. */
+void check_block_answer(const char *call, hoofglaze_answer given, size_t count, uint32_t quiet);
 
 /* A stage of which the checks below know nothing but its numbers. Calls change the state where it lies. */
 struct stage {

@@ -55,6 +55,7 @@ static hoofglaze_gate_answered gate_block(hoofglaze_gate g, const float *input, 
     hoofglaze_gate_answered a = {g, looked_at(input, samples, places)};
     for (size_t i = 0; a.answer.number == 0 && i < samples; i++)
         a.answer.count += gate_step(&a.gate.settings, &a.gate.registers, input[i], &output[i]);
+    a.answer.quiet = a.answer.number == 0 ? a.gate.registers.quiet : 0;
     return a;
 }
 
@@ -66,6 +67,7 @@ static hoofglaze_gate_answered gate_record(hoofglaze_gate g, const float *input,
         aims[i] = (uint8_t)gate_step(&a.gate.settings, &a.gate.registers, input[i], &output[i]);
         a.answer.count += aims[i];
     }
+    a.answer.quiet = a.answer.number == 0 ? a.gate.registers.quiet : 0;
     return a;
 }
 

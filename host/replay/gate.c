@@ -26,10 +26,13 @@ static hoofglaze_answer set(const uint8_t *head)
     }
 }
 
-static hoofglaze_answer hand_back(const uint8_t *numbers)
+/* A state that a version before 9 kept. */
+static hoofglaze_answer load(const uint8_t *numbers)
 {
-    memcpy(&kept.settings, numbers, sizeof kept.settings);
-    memcpy(&kept.registers, numbers + sizeof kept.settings, sizeof kept.registers);
+    hoofglaze_gate_before before;
+    memcpy(&before.settings, numbers, sizeof before.settings);
+    memcpy(&before.registers, numbers + sizeof before.settings, sizeof before.registers);
+    kept = hoofglaze_gate_load(before);
     return (hoofglaze_answer){0};
 }
 
@@ -44,7 +47,7 @@ static hoofglaze_answer call(uint32_t kind, const uint8_t *head)
     case 3: return keep(hoofglaze_gate_set(kept, name, bytes, first, second));
     case 4: return hoofglaze_gate_read(kept, name, bytes);
     case 5: return keep(hoofglaze_gate_reset(kept));
-    case 7: return hand_back(head + 4);
+    case 7: return load(head + 4);
     case 8: return hoofglaze_gate_set_in_place(&kept, name, bytes, first, second);
     case 9: return hoofglaze_gate_reset_in_place(&kept);
     default: return no_call;
@@ -60,9 +63,24 @@ static void tell(hoofglaze_answer a)
     give(&count, 8);
     give(&a.word, 4);
     give(&a.samples, 8);
+    give(&a.quiet, 4);
     give_floats(&kept.settings, sizeof kept.settings / 4);
     give_floats(&kept.registers, 2);
     give(&kept.registers.counter, 8);
+    give(&kept.registers.quiet, 4);
+}
+
+/* A state of today: the head has no room for its quiet count, which stands behind it. */
+static int hand_back(const uint8_t *numbers)
+{
+    uint32_t quiet;
+    if (!take(&quiet, sizeof quiet))
+        return 0;
+    memcpy(&kept.settings, numbers, sizeof kept.settings);
+    memcpy(&kept.registers, numbers + sizeof kept.settings, offsetof(hoofglaze_gate_registers, quiet));
+    kept.registers.quiet = quiet;
+    tell((hoofglaze_answer){0});
+    return 1;
 }
 
 static int block(uint32_t kind, const uint8_t *head)
@@ -100,6 +118,8 @@ int gate_next(void)
         return block(kind, head);
     if (kind == 11)
         return record(head);
+    if (kind == 13)
+        return hand_back(head + 4);
     tell(call(kind, head));
     return 1;
 }

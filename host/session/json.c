@@ -1,5 +1,6 @@
-/* One JSON object, on one line: the recording, the settings with their worked numbers, and each span as it
- * ends, or each run that is compared. Floats have nine digits and doubles seventeen: all are exact. */
+/* One JSON object, on one line: the recording, the settings with their worked numbers, each span as it ends and
+ * how long it was quiet, or each run that is compared. Floats have nine digits and doubles seventeen: all are
+ * exact. */
 #include "json.h"
 
 #include "settings.h"
@@ -82,15 +83,30 @@ void json_begins(const struct session *s)
     fputs(s->asked->runs ? ",\"runs\":[" : ",\"spans\":[", s->json);
 }
 
-void json_span(const struct session *s, const struct span *p)
+static void span(FILE *to, const struct recording *r, const struct span *p)
 {
-    const struct recording *r = &s->recording;
-    fprintf(s->json, "%s{\"from\":%llu,\"to\":%llu,\"from_ms\":%.3f,\"to_ms\":%.3f}",
-            s->run[0].passage.spans > 1 ? "," : "", (unsigned long long)p->from, (unsigned long long)p->to,
-            milliseconds(r, p->from), milliseconds(r, p->to));
+    fprintf(to, "{\"from\":%llu,\"to\":%llu,\"from_ms\":%.3f,\"to_ms\":%.3f}", (unsigned long long)p->from,
+            (unsigned long long)p->to, milliseconds(r, p->from), milliseconds(r, p->to));
 }
 
-static void run_of(FILE *to, const struct run *r)
+void json_span(const struct session *s, const struct span *p)
+{
+    fputs(s->run[0].passage.spans > 1 ? "," : "", s->json);
+    span(s->json, &s->recording, p);
+}
+
+static void quiet_of(FILE *to, const struct recording *r, const struct quiet *q)
+{
+    fputs(",\"quiet\":{\"longest\":", to);
+    if (q->longest.to)
+        span(to, r, &q->longest);
+    else
+        fputs("null", to);
+    fprintf(to, ",\"at_end\":%llu,\"at_end_ms\":%.3f}", (unsigned long long)q->now,
+            milliseconds(r, q->now));
+}
+
+static void run_of(FILE *to, const struct recording *heard, const struct run *r)
 {
     const hoofglaze_gate_settings *g = &r->gate.settings;
     const struct passage *p = &r->passage;
@@ -99,21 +115,25 @@ static void run_of(FILE *to, const struct run *r)
     hold_of(to, r);
     fprintf(to, ",\"open\":%llu,\"spans\":%llu", (unsigned long long)p->open, (unsigned long long)p->spans);
     if (p->spans)
-        fprintf(to, ",\"first\":%llu,\"end\":%llu}", (unsigned long long)p->first,
+        fprintf(to, ",\"first\":%llu,\"end\":%llu", (unsigned long long)p->first,
                 (unsigned long long)p->last.to);
     else
-        fputs(",\"first\":null,\"end\":null}", to);
+        fputs(",\"first\":null,\"end\":null", to);
+    quiet_of(to, heard, &r->quiet);
+    fputc('}', to);
 }
 
 void json_ends(const struct session *s)
 {
     if (!s->asked->runs) {
-        fprintf(s->json, "],\"open\":%llu}\n", (unsigned long long)s->run[0].passage.open);
+        fprintf(s->json, "],\"open\":%llu", (unsigned long long)s->run[0].passage.open);
+        quiet_of(s->json, &s->recording, &s->run[0].quiet);
+        fputs("}\n", s->json);
         return;
     }
     for (int i = 0; i < s->runs; i++) {
         fputs(i ? "," : "", s->json);
-        run_of(s->json, &s->run[i]);
+        run_of(s->json, &s->recording, &s->run[i]);
     }
     fputs("]}\n", s->json);
 }

@@ -1,5 +1,5 @@
-/* The report: the recording, the settings, each span to the sample and in ms as it ends, and how much that
- * is. */
+/* The report: the recording, the settings, each span to the sample and in ms as it ends, how much that is, and
+ * how long it was quiet. */
 #include "report.h"
 
 #include "progress.h"
@@ -69,14 +69,10 @@ void report_span(const struct session *s, const struct span *p)
             thousands(p->to - p->from), milliseconds(r, p->from), milliseconds(r, p->to));
 }
 
-void report_ends(const struct session *s)
+static void open_in_all(const struct session *s)
 {
     const struct passage *p = &s->run[0].passage;
     uint64_t all = s->recording.samples;
-    if (!all) {
-        report_empty(s->report, s);
-        return;
-    }
     if (!p->spans) {
         fputs("aimed open: at no sample; all through the recording ", s->report);
         fputs("the gate took what it heard for silence.\n", s->report);
@@ -86,4 +82,44 @@ void report_ends(const struct session *s)
             thousands(all), percent(p->open, all), thousands(p->spans), plural(p->spans));
     fprintf(s->report, "%s\n",
             p->open == all ? ": all of it." : ";\neverywhere else the gate took what it heard for silence.");
+}
+
+/* How many samples, and how long that is. */
+static void lasting(const struct session *s, uint64_t samples)
+{
+    fprintf(s->report, "%s sample%s, %.1f ms", thousands(samples), plural(samples),
+            milliseconds(&s->recording, samples));
+}
+
+static void quiet_stretches(const struct session *s)
+{
+    const struct quiet *q = &s->run[0].quiet;
+    const struct span *p = &q->longest;
+    fputs("longest quiet stretch, no sample of it loud: ", s->report);
+    lasting(s, p->to - p->from);
+    fprintf(s->report, ", from %s to %s;\nquiet at the end: ", thousands(p->from), thousands(p->to));
+    if (!q->now) {
+        fputs("no, the last sample is loud.\n", s->report);
+        return;
+    }
+    fputs("for ", s->report);
+    lasting(s, q->now);
+    fputs(".\n", s->report);
+}
+
+void report_ends(const struct session *s)
+{
+    const struct quiet *q = &s->run[0].quiet;
+    uint64_t all = s->recording.samples;
+    if (!all) {
+        report_empty(s->report, s);
+        return;
+    }
+    open_in_all(s);
+    if (q->now == all)
+        fputs("quiet all through: no sample is loud.\n", s->report);
+    else if (!q->longest.to)
+        fputs("quiet at no sample: each one is loud.\n", s->report);
+    else
+        quiet_stretches(s);
 }

@@ -7,6 +7,7 @@
 #include "output.h"
 #include "picture.h"
 #include "progress.h"
+#include "quiet.h"
 #include "recording.h"
 #include "sound.h"
 #include "spans.h"
@@ -49,12 +50,14 @@ static void follow_to_end(struct session *s, struct run *r)
 
 static void through_gate(struct session *s, struct run *r, uint64_t at, size_t samples)
 {
-    hoofglaze_gate_answered a = hoofglaze_gate_record(r->gate, input, samples, gated, samples, aims, samples);
+    const hoofglaze_gate before = r->gate;
+    hoofglaze_gate_answered a = hoofglaze_gate_record(before, input, samples, gated, samples, aims, samples);
     if (a.answer.number)
         stop(FAILED, "the library refuses a block by %u at sample %s", (unsigned)a.answer.number,
              thousands(at + a.answer.place));
     r->gate = a.gate;
     follow(s, r, at, samples);
+    quiet_heard(&r->quiet, &before, at, input, samples, a.answer.quiet);
 }
 
 void run(struct session *s)
@@ -77,7 +80,9 @@ void run(struct session *s)
             outputs_written();
         }
     }
-    for (int i = 0; i < s->runs; i++)
+    for (int i = 0; i < s->runs; i++) {
         follow_to_end(s, &s->run[i]);
+        quiet_ends(&s->run[i].quiet, all);
+    }
     progress_hidden();
 }

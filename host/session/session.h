@@ -62,12 +62,21 @@ struct passage {
     uint64_t spans, open;
 };
 
-/* A gate, what the library told of its hold in samples, and what it aimed open at so far. */
+/* ---- how long it was quiet: no sample of a quiet stretch is loud */
+
+struct quiet {
+    struct span longest; /* both ends are 0 where there is none */
+    uint64_t now;        /* the library's count: samples since the latest loud one, or since the start */
+};
+
+/* A gate, what the library told of its hold in samples, what it aimed open at so far, and how long it was
+ * quiet. */
 struct run {
     struct values values;
     hoofglaze_gate gate;
     hoofglaze_truncation hold;
     struct passage passage;
+    struct quiet quiet;
 };
 
 struct session {

@@ -1,4 +1,5 @@
-/* The noise gate's sample: follower, hold, aim, smoothing and gain, in the order that document 01 has. */
+/* The noise gate's sample: follower, hold, aim, smoothing and gain, in the order that document 01 has; and the
+ * quiet count. */
 #include "common.h"
 
 static inline float gain(float ratio, float state)
@@ -16,6 +17,7 @@ static inline int gate_step(const hoofglaze_gate_settings *s, hoofglaze_gate_reg
         m->counter = (uint64_t)((s->hold * 0.001f) * s->rate);
     else if (m->counter > 0)
         m->counter--;
+    m->quiet = loud ? 0 : m->quiet + (m->quiet < UINT32_MAX);
     int open = loud || m->counter > 0;
     float target = open ? 1 : 0;
     m->state = settled(toward(target > m->state ? s->opening : s->closing, m->state, target));

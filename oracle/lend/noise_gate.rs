@@ -46,9 +46,14 @@ impl NoiseGateStage {
         self.hold_counter = registers.counter;
     }
 
-    /// Whether the sample just processed was aimed open.
+    /// Whether the sample just processed was loud.
+    pub fn loud(&self) -> bool {
+        self.envelope.value() > self.threshold
+    }
+
+    /// Whether it was aimed open.
     pub fn aimed_open(&self) -> bool {
-        self.envelope.value() > self.threshold || self.hold_counter > 0
+        self.loud() || self.hold_counter > 0
     }
 
     pub fn hold_samples(&self) -> usize {

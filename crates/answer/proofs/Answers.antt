@@ -1,10 +1,11 @@
 -- What a call tells gives its state and its answer back: no two answers tell the same, in words or in the numbers that cross to a host.
 -- Assumes nothing.
 use mathlib.Core.Path.{_≡_, refl, sym, ap}
+use Prim.Native.Nat.{ℕ}
 use Rattle.float.specs.Truncating as truncating
 use Rattle.float.specs.declared.Truncation.{Truncation}
-use Rattle.answer.specs.Told.{Told, doneHold, told, toldRead}
-use Rattle.answer.specs.Crossing.{toldIn, ofRefusal, ofDone, ofHold, ofAnswer, ofReading}
+use Rattle.answer.specs.Told.{Told, doneHold, donePassed, told, toldRead}
+use Rattle.answer.specs.Crossing.{toldIn, ofRefusal, ofDone, ofHold, ofPassed, ofAnswer, ofReading}
 use Rattle.answer.specs.declared.Answer.{Answer}
 use Rattle.answer.specs.declared.Answer.the-variants as answer
 use Rattle.answer.specs.declared.Reading.{Reading}
@@ -36,6 +37,10 @@ module _ {S : Type 0} (s : S) where
   pub hold-crosses : (t : Truncation) → toldIn s (ofHold t) ≡ doneHold s (t .whole) (truncating.number (t .word))
   unfolding ofHold
   hold-crosses t = refl
+
+  pub passed-crosses : (count quiet : ℕ) → toldIn s (ofPassed count quiet) ≡ donePassed s count quiet
+  unfolding ofPassed
+  passed-crosses count quiet = refl
 
   pub reading-crosses : (a : Reading) → toldIn s (ofReading a) ≡ toldRead s a
   unfolding ofReading ofRefusal ofDone

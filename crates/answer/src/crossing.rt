@@ -20,6 +20,7 @@ pub fn of_refusal(r: Refusal) -> Numbered
         count: 0,
         samples: 0,
         word: 0,
+        quiet: 0,
     }
 }
 
@@ -33,6 +34,7 @@ pub fn of_done(count: usize, value: f32) -> Numbered
         count: count,
         samples: 0,
         word: 0,
+        quiet: 0,
     }
 }
 
@@ -43,6 +45,14 @@ pub fn of_hold(t: Truncation) -> Numbered
     let mut n = of_done(0, 0.0);
     n.samples = t.whole;
     n.word = float::word_number(word);
+    n
+}
+
+pub fn of_passed(count: usize, quiet: u32) -> Numbered
+    ensures { λ n. ⌜ n ≡ crossing.ofPassed count quiet ⌝ }
+{
+    let mut n = of_done(count, 0.0);
+    n.quiet = quiet;
     n
 }
 

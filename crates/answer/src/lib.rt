@@ -4,6 +4,7 @@ mod crossing;
 pub use crossing::of_answer;
 pub use crossing::of_done;
 pub use crossing::of_hold;
+pub use crossing::of_passed;
 pub use crossing::of_reading;
 pub use crossing::of_refusal;
 use float::Exactness;
@@ -57,8 +58,8 @@ pub enum Reading {
 }
 
 // An answer as it crosses to a host: document 01's number, the value read or stepped, the place of the
-// first sample that is refused, the count of samples aimed open, and of a hold that was set its samples and
-// the word of their truncation; each +0 or 0 where the call has none.
+// first sample that is refused, the count of samples aimed open, of a hold that was set its samples and the
+// word of their truncation, and of a gate's block the quiet count; each +0 or 0 where the call has none.
 #[repr(C)]
 pub struct Numbered {
     pub number: u32,
@@ -67,6 +68,7 @@ pub struct Numbered {
     pub count: usize,
     pub samples: u64,
     pub word: u32,
+    pub quiet: u32,
 }
 
 // What the checks of a block find.

@@ -7,8 +7,7 @@ use Prim.Native.Nat.{ℕ, _+_, _/_, _≤_}
 use native.Mathlib.Omega.{arith}
 use lib.ListN.{length, take, drop, length-take}
 use borrow.Author.Tests.{eq-eqb}
-use Rattle.answer.specs.Figures.{nought}
-use Rattle.answer.specs.Told.{Told, doneWith, unless}
+use Rattle.answer.specs.Told.{Told, donePassed, unless}
 use Rattle.noise_gate.specs.Answers.{toldBlock}
 use Rattle.noise_gate.specs.Bounds.{acceptable}
 use Rattle.noise_gate.specs.declared.Gate.{Gate}
@@ -23,7 +22,7 @@ use Rattle.gate.specs.declared.Next.{Next}
 use Rattle.gate.specs.declared.Next.the-variants.{More}
 
 module _ (t : Turn) (b out exit : List ℕ) (next : Next) (g : Gate) (a : Passage) (e : (toldBlock g a, exit) ≡ pass (t .gate) b out) (p : Passed) (is : a ≡ passage.Done p) where
-  told : pass (t .gate) b out .0 ≡ doneWith g (p .count) nought
+  told : pass (t .gate) b out .0 ≡ donePassed g (p .count) (p .quiet)
   told = sym (ap (λ (q : Told Gate × List ℕ). q .0) e) ∙ ap (toldBlock g) is
 
   pub done : (samples aimed : ℕ) → samples ≡ wrapped (t .samples + length out / 2) → aimed ≡ wrapped (t .aimed + p .count) → Done t b out next (record { gate = g; samples = samples; aimed = aimed; next = next })

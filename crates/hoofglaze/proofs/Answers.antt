@@ -1,7 +1,7 @@
 -- What a gate's setting and its block answer tells the same where it crosses. Assumes nothing.
 use mathlib.Core.Path.{_≡_, refl}
 use Rattle.answer.specs.Crossing.{toldIn, ofRefusal, ofDone}
-use Rattle.answer.proofs.Answers.{hold-crosses}
+use Rattle.answer.proofs.Answers.{hold-crosses, passed-crosses}
 use Rattle.noise_gate.specs.Answers.{toldSet, toldBlock}
 use Rattle.noise_gate.specs.declared.Gate.{Gate}
 use Rattle.noise_gate.specs.declared.Adjustment.{Adjustment}
@@ -17,6 +17,6 @@ adjustment-crosses g (adjustment.Held h) = hold-crosses g h
 adjustment-crosses g (adjustment.Refused r) = refl
 
 pub passage-crosses : (g : Gate) (a : Passage) → toldIn g (passed a) ≡ toldBlock g a
-unfolding ofRefusal ofDone
-passage-crosses g (passage.Done p) = refl
+unfolding ofRefusal
+passage-crosses g (passage.Done p) = passed-crosses g (p .count) (p .quiet)
 passage-crosses g (passage.Refused r) = refl

@@ -1,7 +1,7 @@
 -- What a gate's setting and its block answer, as they cross to a host. Definitions only.
 -- Assumes nothing.
 use Rattle.answer.specs.Figures.{nought}
-use Rattle.answer.specs.Crossing.{ofRefusal, ofDone, ofHold}
+use Rattle.answer.specs.Crossing.{ofRefusal, ofDone, ofHold, ofPassed}
 use Rattle.answer.specs.declared.Numbered.{Numbered}
 use Rattle.noise_gate.specs.declared.Adjustment.{Adjustment}
 use Rattle.noise_gate.specs.declared.Adjustment.the-variants as adjustment
@@ -15,7 +15,7 @@ adjusted (adjustment.Held h) = ofHold h
 adjusted (adjustment.Refused r) = ofRefusal r
 
 abbrev pub counted : Passed → Numbered
-counted p = ofDone (p .count) nought
+counted p = ofPassed (p .count) (p .quiet)
 
 abbrev pub passed : Passage → Numbered
 passed (passage.Done p) = counted p

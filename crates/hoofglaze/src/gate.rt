@@ -5,6 +5,7 @@ use answer::Numbered;
 use noise_gate::Adjusted;
 use noise_gate::Adjustment;
 use noise_gate::Answered;
+use noise_gate::Before;
 use noise_gate::Gate;
 use noise_gate::Passage;
 use noise_gate::Passed;
@@ -27,7 +28,7 @@ pub struct GateAnswered {
 fn counted(p: Passed) -> Numbered
     ensures { λ r. ⌜ r ≡ crossing.counted p ⌝ }
 {
-    answer::of_done(p.count, 0.0)
+    answer::of_passed(p.count, p.quiet)
 }
 
 fn passed(a: Passage) -> Numbered
@@ -93,6 +94,13 @@ pub extern "C" fn hoofglaze_gate_make(rate: f32, rising: f32, falling: f32) -> G
     ensures { λ r. ⌜ toldIn (r .gate) (r .answer) ≡ calls.make rate rising falling ⌝ }
 {
     crossed(noise_gate::make(rate, rising, falling))
+}
+
+#[no_mangle]
+pub extern "C" fn hoofglaze_gate_load(b: Before) -> Gate
+    ensures { λ r. ⌜ r ≡ calls.load b ⌝ }
+{
+    noise_gate::load(b)
 }
 
 #[no_mangle]

@@ -1,7 +1,6 @@
 -- What a setting of a gate and a block on one tell: document 01's number and values for each answer, g being the gate after it. Definitions only.
 -- What a making, a reset and a reading tell is `answer`'s. Assumes nothing.
-use Rattle.answer.specs.Figures.{nought}
-use Rattle.answer.specs.Told.{Told, refused, done, doneWith, doneHold}
+use Rattle.answer.specs.Told.{Told, refused, done, doneHold, donePassed}
 use Rattle.float.specs.Truncating as truncating
 use Rattle.noise_gate.specs.declared.Gate.{Gate}
 use Rattle.noise_gate.specs.declared.Adjustment.{Adjustment}
@@ -15,5 +14,5 @@ toldSet g (adjustment.Held h) = doneHold g (h .whole) (truncating.number (h .wor
 toldSet g (adjustment.Refused r) = refused g r
 
 abbrev pub toldBlock : Gate → Passage → Told Gate
-toldBlock g (passage.Done p) = doneWith g (p .count) nought
+toldBlock g (passage.Done p) = donePassed g (p .count) (p .quiet)
 toldBlock g (passage.Refused r) = refused g r

@@ -1,4 +1,4 @@
--- The gate's calls: make, set, read, reset, block, block with a record, with document 01's refusals in its order. Definitions only.
+-- The gate's calls: make, load, set, read, reset, block, block with a record, with document 01's refusals in its order. Definitions only.
 -- Assumes nothing.
 use Prim.Native.Nat.{ℕ}
 use mathlib.Core.Bool.{Bool, _&&_, cond}
@@ -8,7 +8,7 @@ use lib.ListN.{length}
 use lib.Ieee.{Float}
 use Rattle.answer.specs.Figures.{f32, nought, one}
 use Rattle.answer.specs.Checks.{isRate, isSmoothing}
-use Rattle.answer.specs.Told.{Told, refused, done, doneWith, doneHold, unless, whereDone}
+use Rattle.answer.specs.Told.{Told, refused, done, doneWith, doneHold, donePassed, unless, whereDone}
 use Rattle.float.specs.Truncating as truncating
 use Rattle.answer.specs.Blocks.{checkedBlock}
 use Rattle.answer.specs.declared.Refusal.the-variants.{NoSetting, OutOfRange, BadWorkedNumber, BadRate, LengthsDiffer, BadState}
@@ -21,6 +21,7 @@ use Rattle.noise_gate_settings.specs.Names.{named, kept}
 use Rattle.noise_gate_settings.specs.declared.Settings.{Settings}
 use Rattle.noise_gate_sample.specs.declared.Registers.{Registers}
 use Rattle.noise_gate.specs.declared.Gate.{Gate}
+use Rattle.noise_gate.specs.declared.Before.{Before}
 use Rattle.noise_gate_settings.specs.declared.Setting.{Setting}
 use Rattle.noise_gate_settings.specs.declared.Setting.the-variants.{Threshold, Ratio, Attack, Release, Hold}
 use Rattle.noise_gate_settings.specs.declared.Named.{Named}
@@ -30,7 +31,7 @@ abbrev pub gateOf : Settings → Registers → Gate
 gateOf s m = record { settings = s; registers = m }
 
 abbrev pub atRest : Registers
-atRest = record { level = nought; state = nought; counter = 0 }
+atRest = record { level = nought; state = nought; counter = 0; quiet = 0 }
 
 -- ---- make: 5, 4
 unfoldable pub madeSettings : Float → Float → Float → Settings
@@ -68,6 +69,10 @@ make rate rising falling =
     unless (isRate rate) (refused unmade BadRate)
     (unless (isSmoothing rising && isSmoothing falling) (refused unmade BadWorkedNumber)
     (done (gateOf (madeSettings rate rising falling) atRest)))
+
+-- ---- load: a state from before document 02's W10 "has no such count and loads with 0"; every other number is as it was, and nothing is refused
+unfoldable pub load : Before → Gate
+load b = let m = b .registers in gateOf (b .settings) (record { level = m .level; state = m .state; counter = m .counter; quiet = 0 })
 
 -- ---- what a done setting tells of the settings s that it leaves: "exact" or "cut" of the hold, and H beside it; of any other neither
 abbrev pub holdTold : Settings → Setting → ℕ × ℕ
@@ -126,9 +131,9 @@ module _ (s : Settings) (m : Registers) (xs : List Float) where
   abbrev pub openCount : ℕ
   openCount = countAfter (next s) (aim s) m xs
 
-  -- what is told of them, and what the buffer for the output holds afterwards
+  -- what is told of them, the quiet count "after the last sample" with it, and what the buffer for the output holds afterwards
   abbrev pub ran : Told Gate × List Float
-  ran = (doneWith (gateOf s after) openCount nought, outputs)
+  ran = (donePassed (gateOf s after) openCount (after .quiet), outputs)
 
 -- a refusal leaves the buffer as it was
 unfoldable pub block : Gate → List Float → List Float → Told Gate × List Float

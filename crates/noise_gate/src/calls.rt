@@ -1,7 +1,8 @@
-// The gate's calls by value: make, set, read, reset, block. A refusal changes nothing.
+// The gate's calls by value: make, load, set, read, reset, block. A refusal changes nothing.
 use crate::Adjusted;
 use crate::Adjustment;
 use crate::Answered;
+use crate::Before;
 use crate::Gate;
 use crate::Passage;
 use crate::Passed;
@@ -21,7 +22,6 @@ use noise_gate_settings::Named;
 use noise_gate_settings::Setting;
 use noise_gate_settings::Settings;
 ghost use mathlib.Core.Path.{_≡_};
-ghost use Rattle.answer.specs.Figures.{nought};
 ghost use Rattle.answer.specs.Told as Told;
 ghost use Rattle.answer.specs.Told.{told, toldRead};
 ghost use Rattle.noise_gate.specs.Answers.{toldSet, toldBlock};
@@ -34,6 +34,7 @@ const AT_REST: Registers = Registers {
     level: 0.0,
     state: 0.0,
     counter: 0,
+    quiet: 0,
 };
 
 // What a refused making gives.
@@ -120,6 +121,24 @@ pub fn make(rate: f32, rising: f32, falling: f32) -> Answered
     done(made_settings(rate, rising, falling), AT_REST)
 }
 
+// A gate kept from before gates had a quiet count, with the count 0. Nothing is refused: 9 comes with the next
+// call.
+pub fn load(b: Before) -> Gate
+    ensures { λ r. ⌜ r ≡ Calls.load b ⌝ }
+{
+    let s = b.settings;
+    let m = b.registers;
+    Gate {
+        settings: s,
+        registers: Registers {
+            level: m.level,
+            state: m.state,
+            counter: m.counter,
+            quiet: 0,
+        },
+    }
+}
+
 fn set_refused(g: Gate, r: Refusal) -> Adjusted
     ensures { λ a. ⌜ toldSet (a .gate) (a .answer) ≡ Told.refused g r ⌝ }
 {
@@ -195,7 +214,7 @@ pub fn read(g: Gate, name: &[u8]) -> Reading
     Reading::Done(noise_gate_settings::kept(g.settings, t))
 }
 
-// Level, state and counter 0: 9.
+// Level, state, counter and quiet count 0: 9.
 pub fn reset(g: Gate) -> Answered
     ensures { λ r. ⌜ told (r .gate) (r .answer) ≡ Calls.reset g ⌝ }
 {
@@ -215,7 +234,7 @@ fn block_refused(g: Gate, r: Refusal) -> Ran
 }
 
 fn block_done(s: Settings, m: Moved) -> Ran
-    ensures { λ a. ⌜ toldBlock (a .gate) (a .answer) ≡ Told.doneWith (Calls.gateOf s (m .registers)) (m .count) nought ⌝ }
+    ensures { λ a. ⌜ toldBlock (a .gate) (a .answer) ≡ Told.donePassed (Calls.gateOf s (m .registers)) (m .count) (m .registers .quiet) ⌝ }
 {
     let next = m.registers;
     Ran {
@@ -223,7 +242,10 @@ fn block_done(s: Settings, m: Moved) -> Ran
             settings: s,
             registers: next,
         },
-        answer: Passage::Done(Passed { count: m.count }),
+        answer: Passage::Done(Passed {
+            count: m.count,
+            quiet: next.quiet,
+        }),
     }
 }
 

@@ -8,6 +8,7 @@ use answer::Refusal;
 pub use bounds::acceptable;
 pub use calls::block;
 pub use calls::block_recorded;
+pub use calls::load;
 pub use calls::make;
 pub use calls::read;
 pub use calls::reset;
@@ -25,9 +26,25 @@ pub struct Gate {
     pub registers: Registers,
 }
 
-// A done block: how many of its samples were aimed open.
+// What a sample moved before gates had a quiet count.
+#[repr(C)]
+pub struct Uncounted {
+    pub level: f32,
+    pub state: f32,
+    pub counter: u64,
+}
+
+// A gate that a host kept from then.
+#[repr(C)]
+pub struct Before {
+    pub settings: Settings,
+    pub registers: Uncounted,
+}
+
+// A done block: how many of its samples were aimed open, and the quiet count after the last.
 pub struct Passed {
     pub count: usize,
+    pub quiet: u32,
 }
 
 // What a block answers.

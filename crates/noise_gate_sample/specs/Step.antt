@@ -1,6 +1,6 @@
--- One sample of the gate, each line a phrase of document 01, in its order. Definitions only.
+-- One sample of the gate, each line a phrase of document 01, in its order; last, document 02's W10. Definitions only.
 -- Assumes nothing.
-use Prim.Native.Nat.{ℕ, _-_}
+use Prim.Native.Nat.{ℕ, suc, _-_, min}
 use mathlib.Core.Bool.{Bool, _||_, cond}
 use lib.Dec.{ltb}
 use lib.Ieee.{Float, binary32, lt, mul, sub, div, toUnsigned}
@@ -9,7 +9,7 @@ use Rattle.float.specs.Truncating.{exactness}
 use Rattle.float.specs.declared.Truncation.{Truncation}
 use Rattle.answer.specs.Figures.{f32, nought, one}
 use Rattle.common.specs.Follower.{toward, followed}
-use Rattle.noise_gate_sample.specs.Figures.{wideOpen}
+use Rattle.noise_gate_sample.specs.Figures.{wideOpen, longestQuiet}
 use Rattle.noise_gate_settings.specs.declared.Settings.{Settings}
 use Rattle.noise_gate_sample.specs.declared.Registers.{Registers}
 use Rattle.noise_gate_sample.specs.declared.Stepped.{Stepped}
@@ -60,8 +60,12 @@ module _ (s : Settings) (m : Registers) (x : Float) where
   unfoldable pub output : Float
   output = mul binary32 x gain
 
+  -- "0 after a loud sample", and one more after any other; it "stops at 4,294,967,295"
+  unfoldable pub quiet : ℕ
+  quiet = cond loud 0 (min (suc (m .quiet)) longestQuiet)
+
   unfoldable pub next : Registers
-  next = record { level = level; state = state; counter = counter }
+  next = record { level = level; state = state; counter = counter; quiet = quiet }
 
   unfoldable pub step : Stepped
   step = record { registers = next; output = output; aim = aim }

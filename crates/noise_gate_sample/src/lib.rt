@@ -1,10 +1,11 @@
 // One sample of the noise gate, over any bits: what it moves and what it gives.
 use float::Truncation;
 use noise_gate_settings::Settings;
-ghost use Prim.Native.Nat.{_-_};
+ghost use Prim.Native.Nat.{suc, _-_, min};
 ghost use lib.Dec.{ltb};
 ghost use mathlib.Core.Bool.{cond, _||_};
 ghost use mathlib.Core.Path.{_≡_};
+ghost use Rattle.noise_gate_sample.specs.Figures.{longestQuiet};
 ghost use Rattle.noise_gate_sample.specs.Step as Step;
 
 // What a sample moves.
@@ -13,6 +14,7 @@ pub struct Registers {
     pub level: f32,
     pub state: f32,
     pub counter: u64,
+    pub quiet: u32,
 }
 
 // What a sample leaves and gives, and whether the gate aims open at it.
@@ -24,6 +26,9 @@ pub struct Stepped {
 
 // The state from which the gain is 1.
 const WIDE_OPEN: f32 = 0.999;
+
+// Where the quiet count stops.
+const LONGEST_QUIET: u32 = 4294967295;
 
 // H, the hold in samples, and the word of its truncation.
 pub fn held(s: Settings) -> Truncation
@@ -62,6 +67,21 @@ fn aims(loud: bool, n: u64) -> bool
     if loud { true } else { 0 < n }
 }
 
+// The quiet count after a sample, n before it.
+fn quieted(loud: bool, n: u32) -> u32
+    ensures { λ r. ⌜ r ≡ cond loud 0 (min (suc n) longestQuiet) ⌝ }
+{
+    if loud {
+        0
+    } else {
+        if n < LONGEST_QUIET {
+            n + 1
+        } else {
+            LONGEST_QUIET
+        }
+    }
+}
+
 fn gain(ratio: f32, state: f32) -> f32
     ensures { λ r. ⌜ r ≡ Step.gainAt ratio state ⌝ }
 {
@@ -93,6 +113,7 @@ pub fn step(s: Settings, m: Registers, x: f32) -> Stepped
             level: float::settled32(level),
             state: float::settled32(state),
             counter: counter,
+            quiet: quieted(loud, m.quiet),
         },
         output: float::settled32(x * gain(s.ratio, state)),
         aim: aim,

@@ -6,8 +6,7 @@ use mathlib.Core.List.{List}
 use lib.Dec.{eqb}
 use lib.ListN.{length}
 use Rattle.answer.specs.Buffers.{over}
-use Rattle.answer.specs.Figures.{nought}
-use Rattle.answer.specs.Told.{Told, refused, doneWith, unless}
+use Rattle.answer.specs.Told.{Told, refused, donePassed, unless}
 use Rattle.answer.specs.declared.Refusal.the-variants.{LengthsDiffer, BadState}
 use Rattle.fold.specs.Fold.{stateAfter, outAfter, countAfter}
 use Rattle.pcm.specs.Samples.{sampleOf, wordOf, heard, written}
@@ -41,9 +40,13 @@ module _ (s : Settings) (m : Registers) (input : List ℕ) where
   abbrev pub openCount : ℕ
   openCount = countAfter (next s) (aim s) m (wordsOf input)
 
+  -- what is told of them, the quiet count after the last with it
+  abbrev pub ran : Told Gate
+  ran = donePassed (gateOf s after) openCount (after .quiet)
+
 -- what is told, and what the buffer for the output holds afterwards; a last odd byte of it stays as it was
 unfoldable pub pass : Gate → List ℕ → List ℕ → Told Gate × List ℕ
 pass g input out =
     unless (acceptable g) (refused g BadState, out)
     (unless (eqb (length input) (length out)) (refused g LengthsDiffer, out)
-    (doneWith (gateOf (g .settings) (after (g .settings) (g .registers) input)) (openCount (g .settings) (g .registers) input) nought, over (outputs (g .settings) (g .registers) input) out))
+    (ran (g .settings) (g .registers) input, over (outputs (g .settings) (g .registers) input) out))

@@ -42,6 +42,9 @@ pub fn pass(g: Gate, input: &[u8], output: &mut [u8]) -> Ran
             settings: s,
             registers: next,
         },
-        answer: Passage::Done(Passed { count: moved.count }),
+        answer: Passage::Done(Passed {
+            count: moved.count,
+            quiet: next.quiet,
+        }),
     }
 }

@@ -5,7 +5,6 @@ mod Apart
 mod Hold
 use mathlib.Core.Path.{_≡_, refl, sym, ap}
 use mathlib.Core.Bool.{false, _&&_}
-use Prim.Native.Nat.{ℕ}
 use lib.Dec.{T}
 use lib.Ieee.{le, lt, whole}
 use lib.Ieee.Fits.{and-i, and-l, and-r}
@@ -126,7 +125,10 @@ module _ {g h : Gate} where
       (ap (λ (t : Told Gate). t .state) e, ap adjustment.Refused (one-to-one q r (ap (λ (t : Told Gate). t .number) e) (ap (λ (t : Told Gate). t .place) e)))
 
   passage-back : (a b : Passage) → toldBlock g a ≡ toldBlock h b → (g ≡ h) × (a ≡ b)
-  passage-back (Done p) (Done q) e = (ap (λ (t : Told Gate). t .state) e, ap (λ (n : ℕ). Done (record { count = n })) (ap (λ (t : Told Gate). t .count) e))
+  passage-back (Done p) (Done q) e =
+      let count : p .count ≡ q .count = ap (λ (t : Told Gate). t .count) e in
+      let quiet : p .quiet ≡ q .quiet = ap (λ (t : Told Gate). t .quiet) e in
+      (ap (λ (t : Told Gate). t .state) e, ap Done (rw (← count, ← quiet)))
   passage-back (Done p) (Refused r) e = absurd (never-nought r (ap (λ (t : Told Gate). t .number) e))
   passage-back (Refused q) (Done p) e = absurd (never-nought q (sym (ap (λ (t : Told Gate). t .number) e)))
   passage-back (Refused q) (Refused r) e =

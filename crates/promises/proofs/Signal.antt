@@ -30,6 +30,7 @@ noise-gate =
     checked-cut
     (stage gate.gateOf (λ g. g .settings) (λ g. g .registers) (λ _ _. refl) (λ _ _. refl) (λ _. refl) gate-step.next gate-step.output
     (λ c. countAfter (gate-step.next c) (gate-step.aim c)) (λ _ _. refl) (λ c. count-parts (gate-step.next c) (gate-step.aim c)))
+    (λ g. g .registers .quiet)
     gate-bounds.acceptable
 
 equaliser : AnyCut eq.block
@@ -37,6 +38,7 @@ unfolding eq.block
 equaliser =
     checked-cut
     (stage eq.equaliserOf (λ e. e .settings) (λ e. e .registers) (λ _ _. refl) (λ _ _. refl) (λ _. refl) _ _ (λ _ _ _. 0) (λ _ _. refl) (λ _ _ _ _. refl))
+    (λ _. 0)
     eq-states.acceptable
 
 tone-stack : AnyCut tonestack.block
@@ -44,6 +46,7 @@ unfolding tonestack.block
 tone-stack =
     checked-cut
     (stage tonestack.toneOf (λ t. t .settings) (λ t. t .registers) (λ _ _. refl) (λ _ _. refl) (λ _. refl) _ _ (λ _ _ _. 0) (λ _ _. refl) (λ _ _ _ _. refl))
+    (λ _. 0)
     tonestack.acceptable
 
 multiband : AnyCut saturator.block
@@ -51,6 +54,7 @@ unfolding saturator.block
 multiband =
     checked-cut
     (stage saturator.saturatorOf (λ s. s .settings) (λ s. s .registers) (λ _ _. refl) (λ _ _. refl) (λ _. refl) _ _ (λ _ _ _. 0) (λ _ _. refl) (λ _ _ _ _. refl))
+    (λ _. 0)
     (λ s. saturator-ranges.settable (s .settings))
 
 levelling : AnyCut leveller.block
@@ -58,6 +62,7 @@ unfolding leveller.block
 levelling =
     checked-cut
     (stage leveller.levellerOf (λ l. l .settings) (λ l. l .registers) (λ _ _. refl) (λ _ _. refl) (λ _. refl) _ _ (λ _ _ _. 0) (λ _ _. refl) (λ _ _ _ _. refl))
+    (λ _. 0)
     leveller-bounds.acceptable
 
 -- ---- the clipper takes each sample by itself

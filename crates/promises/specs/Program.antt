@@ -7,8 +7,8 @@ use lib.Dec.{T}
 use lib.ListN.{length, take}
 use lib.Ieee.{Float}
 use Rattle.answer.specs.Buffers.{over}
-use Rattle.answer.specs.Figures.{nought, one}
-use Rattle.answer.specs.Told.{Told, doneWith}
+use Rattle.answer.specs.Figures.{one}
+use Rattle.answer.specs.Told.{Told, donePassed}
 use Rattle.answer.specs.Blocks.{BlockUnchanged}
 use Rattle.noise_gate.specs.Bounds.{acceptable}
 use Rattle.noise_gate.specs.declared.Gate.{Gate}
@@ -33,9 +33,9 @@ abbrev pub inTwo : Gate → List ℕ → List ℕ → List ℕ → List ℕ → 
 inTwo g xs ys ox oy =
     let first = pass g xs ox in
     let second = pass (first .0 .state) ys oy in
-    (doneWith (second .0 .state) (first .0 .count + second .0 .count) nought, first .1 ++ second .1)
+    (donePassed (second .0 .state) (first .0 .count + second .0 .count) (second .0 .quiet), first .1 ++ second .1)
 
--- the same bytes, gate and count as in one call, and the gate that a call leaves is one that 9 accepts
+-- the same bytes, gate, count and quiet count as in one call, and the gate that a call leaves is one that 9 accepts
 pub record EvenCut : Type 0 where
   pub in-two : (g : Gate) → Sound g → (xs ys ox oy : List ℕ) → length xs % 2 ≡ 0 → length xs ≡ length ox → length ys ≡ length oy
       → pass g (xs ++ ys) (ox ++ oy) ≡ inTwo g xs ys ox oy

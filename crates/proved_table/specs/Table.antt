@@ -89,7 +89,7 @@ unfoldable pub closedTo : ℕ → ℕ → ℕ
 unfolding holding withSetting next level loud counter aim target state followed toward ofBits toBits mul sub lt fma absolute
 closedTo c from =
     let s = withSetting (holding 0 1) (Release (f32 100 1) (ofBits binary32 c)) in
-    let m : Registers = record { level = nought; state = ofBits binary32 from; counter = 0 } in
+    let m : Registers = record { level = nought; state = ofBits binary32 from; counter = 0; quiet = 0 } in
     toBits binary32 (next s m nought .state)
 
 -- hold 1/16 ms, 50 ms and 0

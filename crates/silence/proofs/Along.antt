@@ -127,7 +127,7 @@ module _ (Inv : Registers → List Sample → Type 0) (first : Inv atRest []) (k
     call-leaves Reset f = by (Leaves []) (acceptable g) k λ _. at-first (g .settings) (k .settable)
 
   -- ---- any calls
-  calls-leave : (g : Gate) (cs : List Call) (h : List Sample) → Sound Inv (g .settings) (g .registers) h → InF32 cs → Sound Inv (carried g cs .settings) (carried g cs .registers) (history g cs h)
+  pub calls-leave : (g : Gate) (cs : List Call) (h : List Sample) → Sound Inv (g .settings) (g .registers) h → InF32 cs → Sound Inv (carried g cs .settings) (carried g cs .registers) (history g cs h)
   unfolding carried history
   calls-leave g [] h k f = k
   calls-leave g (c ∷ cs) h k f = calls-leave (answered g c .state) cs (samplesAfter g c h) (call-leaves g h k c (f .0)) (f .1)

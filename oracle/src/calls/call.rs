@@ -20,6 +20,8 @@ pub enum Call {
     Record(Vec<f32>, usize, usize),
     /// A host hands a state's numbers back.
     Load(Vec<u8>),
+    /// A host loads a state that an earlier release kept. The gate's alone.
+    LoadBefore(Vec<u8>),
     /// The state's numbers.
     Tell,
     /// No call has the number.
@@ -43,6 +45,7 @@ impl Call {
             Self::Block(..) => "blocks",
             Self::Record(..) => "blocks with a record",
             Self::Load(_) => "states handed back",
+            Self::LoadBefore(_) => "states from before loaded",
             Self::Tell => "states told",
             Self::Unknown(_) => "no call",
         }
@@ -58,6 +61,7 @@ impl Call {
             Self::Block(samples, places) => (6, samples.len() as u32, *places as u32),
             Self::Record(..) => unreachable!("only a gate has aims"),
             Self::Load(_) => (7, 0, 0),
+            Self::LoadBefore(_) => unreachable!("only a gate had other numbers"),
             Self::Tell => (8, 0, 0),
             &Self::Unknown(number) => (number, 0, 0),
         };

@@ -9,8 +9,8 @@ use crate::{
     replay::{AIM_BEFORE, BEFORE, NO_CALL},
 };
 
-/// What a call tells: document 01's number, value, place and open count, document 02's word of a hold, and what stands
-/// behind them.
+/// What a call tells: document 01's number, value, place and open count, document 02's word of a hold and quiet count, and
+/// what stands behind them.
 #[derive(Default)]
 pub struct Told {
     pub number: u32,
@@ -18,6 +18,7 @@ pub struct Told {
     pub place: u64,
     pub count: u64,
     pub hold: HoldTold,
+    pub quiet: u32,
     pub behind: Vec<Number>,
 }
 
@@ -53,6 +54,10 @@ impl<S: Rules> Held<S> {
             Call::Make(model, rate, worked) => Ok(self.make(*model, *rate, Taker(worked))),
             Call::Load(numbers) => {
                 *self = Self::new(S::of(Taker(numbers)));
+                Ok(Told::default())
+            }
+            Call::LoadBefore(numbers) => {
+                *self = Self::new(S::of_before(Taker(numbers)));
                 Ok(Told::default())
             }
             Call::Set(which, value, worked) => self.set(&S::name(*which), *value, Taker(worked)),
@@ -145,7 +150,7 @@ impl<S: Rules> Held<S> {
         let Some(rust) = &mut self.rust else {
             return Ok(Told::refused(9));
         };
-        rust.stage().reset();
+        rust.reset();
         self.state = self.state.clone().at_rest();
         self.agrees()?;
         Ok(Told::default())
@@ -186,6 +191,7 @@ impl<S: Rules> Held<S> {
         }
         Ok(Told {
             count: open.iter().map(|&open| u64::from(open)).sum(),
+            quiet: self.state.seen().quiet,
             behind,
             ..Told::default()
         })

@@ -23,11 +23,13 @@ use number::{Number, Taker};
 use rustortion_core::amp::stages::Stage;
 use std::{fmt::Debug, marker::PhantomData};
 
-/// What is compared after each sample beside the output: whether a gate aimed open, and a follower's level as bits.
+/// What is compared after each sample beside the output: whether a gate aimed open, a follower's level as bits, and a
+/// gate's quiet count, which a done block tells of its last sample.
 #[derive(Clone, Copy, Debug, Default, PartialEq, Eq)]
 pub struct Seen {
     pub open: bool,
     pub level: u64,
+    pub quiet: u32,
 }
 
 /// What a hold that was set tells: its truncation's word, and H, the hold in samples. All else tells 0 and 0.
@@ -65,7 +67,7 @@ pub trait Rules: Clone + Debug + Default {
 
     fn sample(&mut self, input: f32) -> f32;
 
-    /// What the sample just run left.
+    /// What the latest sample left; where none was run, what the state has.
     fn seen(&self) -> Seen {
         Seen::default()
     }
@@ -73,6 +75,11 @@ pub trait Rules: Clone + Debug + Default {
     fn numbers(&self) -> Vec<Number>;
 
     fn of(numbers: Taker) -> Self;
+
+    /// The state that one kept by an earlier release is today. The gate's alone had other numbers.
+    fn of_before(numbers: Taker) -> Self {
+        Self::of(numbers)
+    }
 }
 
 /// A Rust stage with worked numbers lent.
@@ -81,6 +88,10 @@ pub trait Rust<S> {
     fn holding(state: &S) -> Self;
 
     fn stage(&mut self) -> &mut dyn Stage;
+
+    fn reset(&mut self) {
+        self.stage().reset();
+    }
 
     /// The Rust works numbers out anew when a setting is set, so they are lent again.
     fn lend(&mut self, state: &S);
@@ -236,6 +247,9 @@ impl<S: Listed> Replay for Called<S> {
             *counts.entry(answered(told.number)).or_default() += 1;
             if let (Call::Block(input, _) | Call::Record(input, ..), 0) = (&call, told.number) {
                 *counts.entry("samples of done blocks").or_default() += input.len() as u64;
+            }
+            if told.quiet == u32::MAX {
+                *counts.entry("quiet counts at the top").or_default() += 1;
             }
             match told.hold.word {
                 EXACT => *counts.entry("holds set, exact").or_default() += 1,

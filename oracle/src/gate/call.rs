@@ -5,8 +5,10 @@ use crate::calls::{
     number::{self, Number, Taker, kept, single_bytes},
 };
 
-/// The bytes of a call without a block's samples, where a name stands in them, and the most samples.
+/// The bytes of a call without what stands behind them, how many of a state's are among them, where a name stands in them,
+/// and the most samples.
 const LENGTH: usize = 64;
+const STATE: usize = LENGTH - 4;
 const NAME: usize = 16;
 const MOST: usize = 4097;
 
@@ -27,7 +29,12 @@ pub fn typed(setting: Setting) -> Call {
     Call::Set(setting.which(), setting.value(), single_bytes(&[worked]))
 }
 
+/// A load of the gate as releases before the quiet count kept it.
 pub fn load(gate: Gate) -> Call {
+    Call::LoadBefore(kept(&gate.numbers_before()))
+}
+
+pub fn hand_back(gate: Gate) -> Call {
     Call::Load(kept(&gate.numbers()))
 }
 
@@ -40,18 +47,26 @@ pub fn bytes(call: &Call, in_place: bool) -> Vec<u8> {
         Call::Read(_) => 4,
         Call::Reset => 5 + 4 * u32::from(in_place),
         Call::Block(..) => 6 + 4 * u32::from(in_place),
-        Call::Load(_) => 7,
+        Call::LoadBefore(_) => 7,
         Call::Record(..) => 11,
+        Call::Load(_) => 13,
         Call::Tell => unreachable!("every answer of a gate tells its state"),
         &Call::Unknown(number) => number,
     };
     let mut bytes = words(&[number]);
     bytes.extend(taken(call));
     bytes.resize(LENGTH, 0);
-    if let Call::Block(samples, _) | Call::Record(samples, ..) = call {
-        bytes.extend(single_bytes(samples));
-    }
+    bytes.extend(behind(call));
     bytes
+}
+
+/// What stands behind the 64 bytes: a block's samples, or what of a state they have no room for.
+fn behind(call: &Call) -> Vec<u8> {
+    match call {
+        Call::Block(samples, _) | Call::Record(samples, ..) => single_bytes(samples),
+        Call::Load(state) => state[STATE..].to_vec(),
+        _ => Vec::new(),
+    }
 }
 
 /// What the call takes.
@@ -70,7 +85,8 @@ fn taken(call: &Call) -> Vec<u8> {
         Call::Record(samples, places, aims) => {
             words(&[samples.len() as u32, *places as u32, *aims as u32])
         }
-        Call::Load(state) => state.clone(),
+        Call::LoadBefore(state) => state.clone(),
+        Call::Load(state) => state[..STATE].to_vec(),
         Call::Reset | Call::Tell | Call::Unknown(_) => Vec::new(),
     }
 }
@@ -85,17 +101,18 @@ pub fn list(bytes: &[u8]) -> impl Iterator<Item = (Call, &'static str)> + '_ {
     std::iter::from_fn(move || {
         let (head, behind) = rest.split_at_checked(LENGTH)?;
         let (mut call, form) = read(head);
+        let (held, behind) = behind.split_at_checked(self::behind(&call).len())?;
         rest = behind;
-        if let Call::Block(samples, _) | Call::Record(samples, ..) = &mut call {
-            let (held, behind) = rest.split_at_checked(4 * samples.len())?;
-            rest = behind;
-            *samples = Taker(held).singles();
+        match &mut call {
+            Call::Block(samples, _) | Call::Record(samples, ..) => *samples = Taker(held).singles(),
+            Call::Load(state) => state[STATE..].copy_from_slice(held),
+            _ => {}
         }
         Some((call, form))
     })
 }
 
-/// The call that 64 bytes say, a block's samples not yet read.
+/// The call that 64 bytes say, with zeros for what stands behind them.
 fn read(head: &[u8]) -> (Call, &'static str) {
     let word = |at: usize| Taker(&head[at..]).whole();
     let float = |at: usize| Taker(&head[at..]).single();
@@ -110,8 +127,9 @@ fn read(head: &[u8]) -> (Call, &'static str) {
         4 => Call::Read(name()),
         5 | 9 => Call::Reset,
         6 | 10 => Call::Block(vec![0.0; length(4)], length(8)),
-        7 => Call::Load(head[4..].to_vec()),
+        7 => Call::LoadBefore(head[4..].to_vec()),
         11 => Call::Record(vec![0.0; length(4)], length(8), length(12)),
+        13 => Call::Load([&head[4..], &[0; 4]].concat()),
         number => Call::Unknown(number),
     };
     let in_place = (8..=10).contains(&number);
@@ -124,6 +142,7 @@ pub fn answer(gate: &Gate, told: &Told) -> Vec<u8> {
     numbers.extend([told.place, told.count].map(Number::Long));
     numbers.push(Number::Whole(told.hold.word));
     numbers.push(Number::Long(told.hold.samples));
+    numbers.push(Number::Whole(told.quiet));
     numbers.extend(gate.numbers());
     numbers.extend(&told.behind);
     number::told(&numbers)

@@ -20,7 +20,7 @@ pub(super) const FORMER_HOLD: f32 = 50.0;
 
 /// The stored list: every refusal, every length, the borders; a made gate with nothing set but its hold; then
 /// sessions; a call of each number that no call has; the same again of blocks with a record; how long a made gate
-/// holds, and a kept one; what a set hold tells; and a call that ends too soon.
+/// holds, and a kept one; what a set hold tells; how long it has been quiet; and a call that ends too soon.
 pub fn stored() -> Vec<u8> {
     let mut random = Random::new(4);
     let mut list = List::<Gate>::new(&mut random);
@@ -39,6 +39,7 @@ pub fn stored() -> Vec<u8> {
     list.records();
     list.holds();
     list.words();
+    list.quiet();
     list.ends_too_soon();
     list.bytes
 }
@@ -59,6 +60,7 @@ pub(super) const QUICK: Gate = Gate {
     level: 0.0,
     state: 0.0,
     counter: 0,
+    quiet: 0,
 };
 
 pub(super) const fn settings(gate: &Gate) -> [Setting; 5] {

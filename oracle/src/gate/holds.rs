@@ -25,6 +25,7 @@ pub(super) const KEPT: Gate = Gate {
     level: 0.0,
     state: 1.0,
     counter: 300,
+    quiet: 0,
 };
 
 impl List<'_, Gate> {

@@ -1,14 +1,17 @@
 //! The noise gate. Its calls are those of the other stages, in bytes of its own: 64 for a call, with a block's
-//! samples behind them, and setting by name, reset and block both by value and on the gate where it lies; and a block
-//! with a record of the aims.
+//! samples behind them, and setting by name, reset and block both by value and on the gate where it lies; a block
+//! with a record of the aims; and a load of a state from before there was a quiet count.
 mod call;
 mod cases;
 mod holds;
 #[cfg(test)]
 mod needs;
 #[cfg(test)]
+mod needs_of_quiet;
+#[cfg(test)]
 mod needs_of_words;
 mod numbers;
+mod quiet;
 mod records;
 mod rules;
 mod rust;
@@ -31,6 +34,7 @@ impl Listed for Gate {
 
     fn session(list: &mut List<Self>) {
         list.hold_session();
+        list.quiet_session();
         if list.random.coin() {
             list.session();
         } else {

@@ -9,8 +9,8 @@ use crate::{
 use std::collections::BTreeMap;
 
 /// The bytes of an answer without a block's output and aims, and where in them the state begins.
-const ANSWER: usize = 96;
-const STATE: usize = 36;
+const ANSWER: usize = 104;
+pub(super) const STATE: usize = 40;
 
 /// The refusals that hold of a record, whatever their order, with 7 told apart by the buffer.
 fn refusals(gate: &Gate, input: &[f32], places: usize, aims: usize) -> Vec<&'static str> {
@@ -64,6 +64,7 @@ fn records() -> Vec<(Gate, Vec<f32>, usize, usize)> {
         }
         gate = match &call {
             Call::Load(numbers) => Gate::of(Taker(numbers)),
+            Call::LoadBefore(numbers) => Gate::of_before(Taker(numbers)),
             Call::Make(..) => after(gate, &call).unwrap_or_default(),
             _ if gate.is_acceptable() => after(gate, &call).unwrap_or(gate),
             _ => gate,
@@ -178,14 +179,14 @@ fn a_record_by_hand() {
         recorded[..24],
         *b"\0\0\0\0\0\0\0\0\0\0\0\0\0\0\0\0\x03\0\0\0\0\0\0\0"
     );
-    assert_eq!(recorded[24..STATE], [0; 12]);
+    assert_eq!(recorded[24..STATE], [0; 16]);
     assert_eq!(recorded[ANSWER + 24..][..6], [0, 1, 1, 0, 0, 1]);
     let refused = &recorded[ANSWER + 30..];
     assert_eq!(
         refused[..24],
         *b"\x07\0\0\0\0\0\0\0\0\0\0\0\0\0\0\0\0\0\0\0\0\0\0\0"
     );
-    assert_eq!(refused[24..STATE], [0; 12]);
+    assert_eq!(refused[24..STATE], [0; 16]);
     assert_eq!(refused[STATE..ANSWER], recorded[STATE..ANSWER]);
     let behind = &refused[ANSWER..];
     assert_eq!(behind[..9], *b"\0\0\x7a\xc4\0\0\x7a\xc4\xa5");

@@ -1,5 +1,11 @@
 //! What a set hold tells, by hand and in every list; and what the lists must have of it, counted.
-use super::{NoiseGate, cases, needs::answered, rules::Gate, setting::NAMES, words::BY_HAND};
+use super::{
+    NoiseGate, cases,
+    needs::{STATE, answered},
+    rules::Gate,
+    setting::NAMES,
+    words::BY_HAND,
+};
 use crate::{
     calls::{Call, List, Rules, number::Taker},
     exact::{CUT, EXACT},
@@ -27,15 +33,15 @@ impl Asked {
     }
 
     fn rate(&self) -> f32 {
-        Taker(&self.answer[36..]).single()
+        Taker(&self.answer[STATE..]).single()
     }
 
     fn hold(&self) -> f32 {
-        Taker(&self.answer[68..]).single()
+        Taker(&self.answer[STATE + 32..]).single()
     }
 
     fn counter(&self) -> u64 {
-        Taker(&self.answer[88..]).long()
+        Taker(&self.answer[STATE + 52..]).long()
     }
 }
 

@@ -59,6 +59,16 @@ pub fn counted_hold(rate: f32, random: &mut Random) -> f32 {
     }
 }
 
+/// A quiet count: mostly so near the top that a few blocks reach it; then few, around a power of two, or any.
+pub fn quiet(random: &mut Random) -> u32 {
+    match random.below(8) {
+        0 => random.below(3) as u32,
+        1 => (1 << random.below(32)) - random.below(2) as u32,
+        2 => random.bits32(),
+        _ => u32::MAX - random.below(60) as u32,
+    }
+}
+
 /// A gate that 9 accepts, in the middle of its work.
 pub fn acceptable(random: &mut Random) -> Gate {
     Gate {
@@ -76,6 +86,7 @@ pub fn acceptable(random: &mut Random) -> Gate {
         level: level(random),
         state: within(0.0, 1.0, random) * random.pick(&[1.0, 1e-38, 1e-44]),
         counter: random.pick(&[0, 1, 2, 100, LONGEST_COUNT]),
+        quiet: 0,
     }
 }
 

@@ -1,4 +1,4 @@
-//! Document 01's "Gate": its numbers, what each call does to them, and one sample.
+//! Document 01's "Gate": its numbers, what each call does to them, and one sample. The quiet count is document 02's W10.
 use super::{
     rust::Rust,
     setting::{NAMES, Setting},
@@ -37,9 +37,53 @@ pub struct Gate {
     pub level: f32,
     pub state: f32,
     pub counter: u64,
+    pub quiet: u32,
 }
 
 impl Gate {
+    /// Its numbers as releases before the quiet count kept them.
+    pub fn numbers_before(&self) -> Vec<Number> {
+        let mut numbers = singles(&[
+            self.rate,
+            self.threshold,
+            self.factor,
+            self.ratio,
+            self.attack,
+            self.opening,
+            self.release,
+            self.closing,
+            self.hold,
+            self.rising,
+            self.falling,
+            self.level,
+            self.state,
+        ]);
+        numbers.push(Number::Long(self.counter));
+        numbers
+    }
+
+    /// Takes those numbers; the quiet count, which is not among them, is 0.
+    fn taken_before(numbers: &mut Taker) -> Self {
+        let mut next = || numbers.single();
+        Self {
+            rate: next(),
+            threshold: next(),
+            factor: next(),
+            ratio: next(),
+            attack: next(),
+            opening: next(),
+            release: next(),
+            closing: next(),
+            hold: next(),
+            rising: next(),
+            falling: next(),
+            level: next(),
+            state: next(),
+            counter: numbers.long(),
+            quiet: 0,
+        }
+    }
+
     /// The value kept for a setting.
     const fn kept(&self, setting: Setting) -> f32 {
         match setting {
@@ -148,7 +192,8 @@ impl Rules for Gate {
     }
 
     fn at_rest(mut self) -> Self {
-        (self.level, self.state, self.counter) = (0.0, 0.0, 0);
+        (self.level, self.state) = (0.0, 0.0);
+        (self.counter, self.quiet) = (0, 0);
         self
     }
 
@@ -165,6 +210,11 @@ impl Rules for Gate {
         } else if self.counter > 0 {
             self.counter -= 1;
         }
+        self.quiet = if loud {
+            0
+        } else {
+            self.quiet.saturating_add(1)
+        };
         let open = loud || self.counter > 0;
         let target = pick(open, 1.0, 0.0);
         self.state = toward(
@@ -185,46 +235,25 @@ impl Rules for Gate {
         Seen {
             open: self.level > self.factor || self.counter > 0,
             level: bits32(self.level),
+            quiet: self.quiet,
         }
     }
 
     fn numbers(&self) -> Vec<Number> {
-        let mut numbers = singles(&[
-            self.rate,
-            self.threshold,
-            self.factor,
-            self.ratio,
-            self.attack,
-            self.opening,
-            self.release,
-            self.closing,
-            self.hold,
-            self.rising,
-            self.falling,
-            self.level,
-            self.state,
-        ]);
-        numbers.push(Number::Long(self.counter));
+        let mut numbers = self.numbers_before();
+        numbers.push(Number::Whole(self.quiet));
         numbers
     }
 
     fn of(mut numbers: Taker) -> Self {
-        let mut next = || numbers.single();
+        let gate = Self::taken_before(&mut numbers);
         Self {
-            rate: next(),
-            threshold: next(),
-            factor: next(),
-            ratio: next(),
-            attack: next(),
-            opening: next(),
-            release: next(),
-            closing: next(),
-            hold: next(),
-            rising: next(),
-            falling: next(),
-            level: next(),
-            state: next(),
-            counter: numbers.long(),
+            quiet: numbers.whole(),
+            ..gate
         }
+    }
+
+    fn of_before(mut numbers: Taker) -> Self {
+        Self::taken_before(&mut numbers)
     }
 }

@@ -1,4 +1,4 @@
-//! The Rust's gate with worked numbers lent.
+//! The Rust's gate with worked numbers lent, and beside it the quiet count, which it doesn't have: by what it takes as loud.
 use super::rules::Gate;
 use crate::{
     bits::bits32,
@@ -10,7 +10,26 @@ use rustortion_core::amp::stages::{
     noise_gate::{GateRegisters, NoiseGateStage},
 };
 
-pub struct Rust(NoiseGateStage);
+pub struct Rust {
+    stage: NoiseGateStage,
+    /// Of samples that were not loud, with no top.
+    quiet: u64,
+}
+
+impl Rust {
+    fn quiet(&self) -> u32 {
+        u32::try_from(self.quiet).unwrap_or(u32::MAX)
+    }
+
+    fn process(&mut self, sample: f32) -> f32 {
+        let output = self.stage.process(sample);
+        self.quiet += 1;
+        if self.stage.loud() {
+            self.quiet = 0;
+        }
+        output
+    }
+}
 
 impl calls::Rust<Gate> for Rust {
     fn holding(gate: &Gate) -> Self {
@@ -23,9 +42,12 @@ impl calls::Rust<Gate> for Rust {
             gate.rate,
         );
         stage.lend_follower(gate.rising, gate.falling);
-        let mut rust = Self(stage);
+        let mut rust = Self {
+            stage,
+            quiet: gate.quiet.into(),
+        };
         rust.lend(gate);
-        rust.0.load(GateRegisters {
+        rust.stage.load(GateRegisters {
             level: gate.level,
             state: gate.state,
             counter: gate.counter as usize,
@@ -34,17 +56,22 @@ impl calls::Rust<Gate> for Rust {
     }
 
     fn stage(&mut self) -> &mut dyn Stage {
-        &mut self.0
+        &mut self.stage
+    }
+
+    fn reset(&mut self) {
+        self.stage.reset();
+        self.quiet = 0;
     }
 
     fn lend(&mut self, gate: &Gate) {
-        self.0.lend_threshold(gate.factor);
-        self.0.lend_smoothing(gate.opening, gate.closing);
+        self.stage.lend_threshold(gate.factor);
+        self.stage.lend_smoothing(gate.opening, gate.closing);
     }
 
     fn held(&self, gate: &Gate) -> Gate {
-        let registers = self.0.registers();
-        let read = |name| self.0.get_parameter(name).expect("a setting");
+        let registers = self.stage.registers();
+        let read = |name| self.stage.get_parameter(name).expect("a setting");
         Gate {
             ratio: read("ratio"),
             attack: read("attack"),
@@ -53,6 +80,7 @@ impl calls::Rust<Gate> for Rust {
             level: registers.level,
             state: registers.state,
             counter: registers.counter as u64,
+            quiet: self.quiet(),
             ..*gate
         }
     }
@@ -62,8 +90,8 @@ impl calls::Rust<Gate> for Rust {
         if name != b"hold" {
             return HoldTold::default();
         }
-        let samples = self.0.hold_samples();
-        let is_exact = samples as f32 == self.0.hold_product();
+        let samples = self.stage.hold_samples();
+        let is_exact = samples as f32 == self.stage.hold_product();
         HoldTold {
             word: if is_exact { EXACT } else { CUT },
             samples: samples as u64,
@@ -77,10 +105,11 @@ impl calls::Rust<Gate> for Rust {
 
     fn block(&mut self, _: &Gate, samples: &mut [f32]) -> Vec<Seen> {
         let run = |sample: &mut f32| {
-            *sample = self.0.process(*sample);
+            *sample = self.process(*sample);
             Seen {
-                open: self.0.aimed_open(),
-                level: bits32(self.0.registers().level),
+                open: self.stage.aimed_open(),
+                level: bits32(self.stage.registers().level),
+                quiet: self.quiet(),
             }
         };
         samples.iter_mut().map(run).collect()

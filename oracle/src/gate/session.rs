@@ -67,7 +67,7 @@ impl List<'_, Gate> {
     }
 
     /// A call that is refused, so nothing changes.
-    fn refused(&mut self, gate: &Gate) {
+    pub(super) fn refused(&mut self, gate: &Gate) {
         match self.random.below(50) {
             0 => {
                 let samples = signals::drawn(gate.factor, LONGEST_BLOCK + 1, self.random);
@@ -147,7 +147,7 @@ impl List<'_, Gate> {
     }
 
     /// A record that 7, 8 or 6 refuses, or more of them; an empty one may be done.
-    fn drawn_refused_record(&mut self, gate: &Gate) {
+    pub(super) fn drawn_refused_record(&mut self, gate: &Gate) {
         let length = match self.random.below(40) {
             0 => OVER,
             _ => self.random.below(30) as usize,

@@ -83,7 +83,7 @@ impl List<'_, Gate> {
         });
     }
 
-    fn set_in_each_form(&mut self, setting: Setting) {
+    pub(super) fn set_in_each_form(&mut self, setting: Setting) {
         for form in FORMS {
             self.set_as(form, setting);
         }
@@ -97,7 +97,7 @@ impl List<'_, Gate> {
     }
 
     /// A gate whose counter the loud sample sets to H.
-    fn made_to_count(&mut self, rate: f32) {
+    pub(super) fn made_to_count(&mut self, rate: f32) {
         self.add(call::make(rate, 0.0, 0.0));
         self.set(HEARD, 0.25);
     }

@@ -195,8 +195,8 @@ impl Rules for Leveller {
 
     fn seen(&self) -> Seen {
         Seen {
-            open: false,
             level: bits32(self.level),
+            ..Seen::default()
         }
     }
 

@@ -18,8 +18,8 @@ impl Rust {
         let run = |sample: &mut f32| {
             *sample = self.0.process(*sample);
             Seen {
-                open: false,
                 level: bits32(self.0.follower().level),
+                ..Seen::default()
             }
         };
         samples.iter_mut().map(run).collect()

@@ -10,7 +10,7 @@ mod worked;
 
 use crate::{exact::EXACT, gate::Gate, wave::rules::read, wave_write::rules::head};
 use passage::{Passage, Then};
-use told::{Heard, Hold, Run, Span, Told};
+use told::{Heard, Hold, Quiet, Run, Span, Time, Told};
 
 /// How far a time may be from its sample's: three decimals are said.
 const MS: f64 = 0.000_6;
@@ -37,18 +37,23 @@ pub fn judged(file: &[u8], json: &str, gated: Option<&[u8]>) -> Result<String, S
     match &said.heard {
         Heard::Runs(_) if gated.is_some() => Err("several runs write no file".into()),
         Heard::Runs(runs) => {
-            runs.iter().try_for_each(|run| agrees(run, samples))?;
+            runs.iter().try_for_each(|run| agrees(run, rate, samples))?;
             Ok(format!(
                 "{count} samples, {} runs: as the Rust aims",
                 runs.len()
             ))
         }
-        Heard::Spans { spans, times, open } => {
+        Heard::Spans {
+            spans,
+            times,
+            open,
+            quiet,
+        } => {
             let then = behind(&said, gated.is_some())?;
             let passage = passage::of(said.gate, samples, then)?;
             spans_agree(spans, *open, &passage)?;
-            let timed = |&(sample, ms): &(u64, f64)| near("a span's time", ms, sample, rate);
-            times.iter().try_for_each(timed)?;
+            times_agree("a span's time", times, rate)?;
+            quiet_agrees(quiet, rate, &passage)?;
             gated.map_or(Ok(()), |gated| file_agrees(gated, rate, &passage.written))?;
             Ok(format!(
                 "{count} samples, {} spans: as the Rust aims",
@@ -100,6 +105,11 @@ fn near(name: &str, ms: f64, sample: u64, rate: u32) -> Result<(), String> {
     }
 }
 
+fn times_agree(name: &str, said: &[Time], rate: u32) -> Result<(), String> {
+    let mut said = said.iter();
+    said.try_for_each(|&(sample, ms)| near(name, ms, sample, rate))
+}
+
 /// Whether the worked numbers and the hold are the gate's.
 fn settings_agree(gate: &Gate, said: &Hold) -> Result<(), String> {
     worked::judged(gate)?;
@@ -134,7 +144,13 @@ fn spans_agree(said: &[Span], open: u64, passage: &Passage) -> Result<(), String
     same("open", open, passage.open)
 }
 
-fn agrees(run: &Run, samples: &[u8]) -> Result<(), String> {
+fn quiet_agrees(said: &Quiet, rate: u32, passage: &Passage) -> Result<(), String> {
+    same("longest quiet", said.longest, passage.longest_quiet)?;
+    same("quiet at the end", said.at_end, passage.quiet_at_end)?;
+    times_agree("a quiet time", &said.times, rate)
+}
+
+fn agrees(run: &Run, rate: u32, samples: &[u8]) -> Result<(), String> {
     settings_agree(&run.gate, &run.hold)?;
     let passage = passage::of(run.gate, samples, Then::Nothing)?;
     let name = |of: &str| {
@@ -150,7 +166,8 @@ fn agrees(run: &Run, samples: &[u8]) -> Result<(), String> {
         &name("first and end"),
         run.ends,
         ends.map(|(first, last)| (first.0, last.1)),
-    )
+    )?;
+    quiet_agrees(&run.quiet, rate, &passage).map_err(|reason| name(&reason))
 }
 
 /// The writer's head, whatever the length, and the samples behind it.

@@ -1,5 +1,5 @@
 //! A recording through the gate, and an equaliser behind it: by the documents and by the Rust, sample by sample, which must
-//! agree; and what was aimed open.
+//! agree; what was aimed open, and how long it was quiet.
 use super::told::Span;
 use crate::{
     bits::bits32,
@@ -39,11 +39,14 @@ impl<S: Rules> Both<S> {
     }
 }
 
-/// What was aimed open, and the samples behind it all, as bytes.
+/// What was aimed open, the longest stretch with no loud sample and how many there are at the end, and the samples behind it
+/// all, as bytes.
 #[derive(Default)]
 pub struct Passage {
     pub spans: Vec<Span>,
     pub open: u64,
+    pub longest_quiet: Option<Span>,
+    pub quiet_at_end: u64,
     pub written: Vec<u8>,
 }
 
@@ -53,6 +56,15 @@ impl Passage {
         match self.spans.last_mut() {
             Some((_, to)) if *to == at => *to += 1,
             _ => self.spans.push((at, at + 1)),
+        }
+    }
+
+    /// So many samples up to this one were not loud. Of stretches as long the first is kept.
+    fn quiet(&mut self, samples: u64, at: u64) {
+        self.quiet_at_end = samples;
+        let longest = self.longest_quiet.map_or(0, |(from, to)| to - from);
+        if samples > longest {
+            self.longest_quiet = Some((at + 1 - samples, at + 1));
         }
     }
 
@@ -87,6 +99,7 @@ pub fn of(gate: Gate, bytes: &[u8], then: Then) -> Result<Passage, String> {
             if seen.open {
                 passage.aimed(at);
             }
+            passage.quiet(seen.quiet.into(), at);
             at += 1;
         }
         if let Some(equaliser) = &mut equaliser {

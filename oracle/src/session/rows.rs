@@ -2,7 +2,8 @@
 //!
 //! At 8,000 Hz the follower's numbers are exp(-1.25) = 0.2865 and exp(-1/80). A click of 1/2 at sample 100 brings the level to
 //! 0.7135 / 2 = 0.3567, and from there it falls to 0.01, -40 dB, in 80 * ln(35.67) = 285.9 samples: 100 to 385 are loud. A hold
-//! of 100 ms is 800 samples: of those behind 385 the next 799 are aimed open.
+//! of 100 ms is 800 samples: of those behind 385 the next 799 are aimed open. Quiet are the 100 before the click and the
+//! 15,614 from 386 on.
 use super::{judged, spans};
 use crate::wave_write::rules::head;
 use rustortion_core::amp::stages::eq::EqStage;
@@ -25,10 +26,11 @@ fn click() -> Vec<u8> {
 const SETTINGS: &str = r#""settings":{"threshold_db":-40,"factor":0.00999999978,"ratio":10,"attack_ms":1,"opening":0.882496893,"release_ms":100,"closing":0.998750806,"hold_ms":100,"hold_samples":800,"hold_word":"exact","rising":0.286504805,"falling":0.987577796}"#;
 const SPANS: &str =
     r#""eq":[],"spans":[{"from":100,"to":1185,"from_ms":12.500,"to_ms":148.125}],"open":1085"#;
+const QUIET: &str = r#""quiet":{"longest":{"from":386,"to":16000,"from_ms":48.250,"to_ms":2000.000},"at_end":15614,"at_end_ms":1951.750}"#;
 
 fn json() -> String {
     format!(
-        r#"{{"file":"click.wav","rate":8000,"samples":16000,"ms":2000.000,{SETTINGS},{SPANS}}}"#
+        r#"{{"file":"click.wav","rate":8000,"samples":16000,"ms":2000.000,{SETTINGS},{SPANS},{QUIET}}}"#
     )
 }
 
@@ -89,8 +91,32 @@ fn wrong_ones() {
         (r#""rate":8000"#, r#""rate":8001"#, "rate"),
         (r#""samples":16000"#, r#""samples":15999"#, "samples"),
         (r#""ms":2000.000"#, r#""ms":2000.001"#, "ms"),
-        (r#""from_ms":12.500"#, r#""from_ms":12.501"#, "time"),
-        (r#""to_ms":148.125"#, r#""to_ms":148.124"#, "time"),
+        (r#""from_ms":12.500"#, r#""from_ms":12.501"#, "span's time"),
+        (r#""to_ms":148.125"#, r#""to_ms":148.124"#, "span's time"),
+        (r#""from":386"#, r#""from":385"#, "longest quiet"),
+        (r#""from":386"#, r#""from":387"#, "longest quiet"),
+        (r#""to":16000"#, r#""to":15999"#, "longest quiet"),
+        (
+            r#"{"from":386,"to":16000,"from_ms":48.250,"to_ms":2000.000}"#,
+            r#"{"from":0,"to":100,"from_ms":0.000,"to_ms":12.500}"#,
+            "longest quiet",
+        ),
+        (
+            r#"{"from":386,"to":16000,"from_ms":48.250,"to_ms":2000.000}"#,
+            "null",
+            "longest quiet",
+        ),
+        (r#""at_end":15614"#, r#""at_end":15613"#, "at the end"),
+        (r#""at_end":15614"#, r#""at_end":15615"#, "at the end"),
+        // The samples since the aim closed.
+        (r#""at_end":15614"#, r#""at_end":14815"#, "at the end"),
+        (r#""from_ms":48.250"#, r#""from_ms":48.251"#, "quiet time"),
+        (r#""to_ms":2000.000"#, r#""to_ms":1999.999"#, "quiet time"),
+        (
+            r#""at_end_ms":1951.750"#,
+            r#""at_end_ms":1951.749"#,
+            "quiet time",
+        ),
         (r#""ratio":10"#, r#""ratio":100.5"#, "9 refuses"),
         (r#""threshold_db":-40"#, r#""threshold_db":-41"#, "factor"),
     ];
@@ -139,6 +165,64 @@ fn holds_and_their_words() {
     }
 }
 
+/// What is said of a recording at 8,000 Hz with this one span, or none, and these quiet figures.
+fn said_of(
+    samples: &[i16],
+    span: Option<(u64, u64)>,
+    longest: Option<(u64, u64)>,
+    at_end: u64,
+) -> Result<String, String> {
+    let ms = |sample: u64| format!("{:.3}", sample as f64 / 8.0);
+    let told = |(from, to): (u64, u64)| {
+        let [from_ms, to_ms] = [from, to].map(ms);
+        format!(r#"{{"from":{from},"to":{to},"from_ms":{from_ms},"to_ms":{to_ms}}}"#)
+    };
+    let count = samples.len() as u64;
+    let spans = span.map_or(String::new(), told);
+    let open = span.map_or(0, |(from, to)| to - from);
+    let longest = longest.map_or("null".into(), told);
+    let json = format!(
+        r#"{{"file":"a.wav","rate":8000,"samples":{count},"ms":{},{SETTINGS},"eq":[],"spans":[{spans}],"open":{open},"quiet":{{"longest":{longest},"at_end":{at_end},"at_end_ms":{}}}}}"#,
+        ms(count),
+        ms(at_end)
+    );
+    judged(&file(8_000, samples), &json, None)
+}
+
+/// Silence with clicks in it. A second one comes upon what is left of the first's level, 100 samples after it fell to 0.01:
+/// 0.01 * exp(-100 / 80) * 0.2865 = 0.0008 more, and it is loud for 80 * ln(35.75) = 286.1 samples, the last of them 286 behind
+/// it.
+fn clicks(at: &[usize], length: usize) -> Vec<i16> {
+    let mut samples = vec![0; length];
+    at.iter().for_each(|&at| samples[at] = 16_384);
+    samples
+}
+
+#[test]
+fn quiet_stretches() {
+    // Of two as long the first; one sample more, and it is the second; then the one at the end.
+    let equal = clicks(&[100, 486], 823);
+    assert!(said_of(&equal, Some((100, 823)), Some((0, 100)), 50).is_ok());
+    assert!(said_of(&equal, Some((100, 823)), Some((386, 486)), 50).is_err());
+    let second = clicks(&[100, 487], 824);
+    assert!(said_of(&second, Some((100, 824)), Some((386, 487)), 50).is_ok());
+    assert!(said_of(&second, Some((100, 824)), Some((0, 100)), 50).is_err());
+    let last = clicks(&[100, 486], 874);
+    assert!(said_of(&last, Some((100, 874)), Some((773, 874)), 101).is_ok());
+    // The last sample is loud; then the one behind it is not.
+    let loud = clicks(&[0], 286);
+    assert!(said_of(&loud, Some((0, 286)), None, 0).is_ok());
+    assert!(said_of(&loud, Some((0, 286)), Some((0, 0)), 0).is_err());
+    assert!(said_of(&loud, Some((0, 286)), None, 1).is_err());
+    let quiet = clicks(&[0], 287);
+    assert!(said_of(&quiet, Some((0, 287)), Some((286, 287)), 1).is_ok());
+    assert!(said_of(&quiet, Some((0, 287)), None, 0).is_err());
+    // None is loud; and there is none.
+    assert!(said_of(&[0; 9_000], None, Some((0, 9_000)), 9_000).is_ok());
+    assert!(said_of(&[], None, None, 0).is_ok());
+    assert!(said_of(&[], None, Some((0, 0)), 0).is_err());
+}
+
 /// Two units in the last place are no matter. The Rust's own formula is some units off the header's, and twelve are too many.
 #[test]
 fn worked_numbers() {
@@ -179,6 +263,22 @@ fn no_json() {
             r#""hold_samples":800,"hold_word":"exact""#,
             r#""hold_word":"exact","hold_samples":800"#,
         ),
+        (r#""quiet":"#, r#""still":"#),
+        (
+            r#""longest":{"from":386,"to":16000,"from_ms":48.250,"to_ms":2000.000},"#,
+            "",
+        ),
+        (QUIET, r#""quiet":null"#),
+        (QUIET, r#""quiet":[]"#),
+        (r#""at_end":15614,"#, ""),
+        (r#""at_end":15614,"#, r#""at_end":null,"#),
+        (r#","at_end_ms":1951.750"#, ""),
+        (
+            r#""at_end_ms":1951.750"#,
+            r#""at_end_ms":1951.750,"more":1"#,
+        ),
+        (r#""from_ms":48.250,"#, ""),
+        (r#""from":386,"to":16000"#, r#""to":16000,"from":386"#),
         (r#""open":1085"#, r#""open":1085,"more":1"#),
         (r#""open":1085"#, r#""open":"1085""#),
         (r#""open":1085"#, r#""open":nan"#),
@@ -266,15 +366,18 @@ fn an_equaliser_behind_it() {
     assert!(judged(&click(), &other, None).is_err());
 }
 
-const RUN: &str = r#"{"threshold_db":-40,"factor":0.00999999978,"hold_ms":100,"hold_samples":800,"hold_word":"exact","open":1085,"spans":1,"first":100,"end":1185}"#;
-const SILENT: &str = r#"{"threshold_db":0,"factor":1,"hold_ms":0,"hold_samples":0,"hold_word":"exact","open":0,"spans":0,"first":null,"end":null}"#;
+const RUN: &str = r#"{"threshold_db":-40,"factor":0.00999999978,"hold_ms":100,"hold_samples":800,"hold_word":"exact","open":1085,"spans":1,"first":100,"end":1185,"quiet":{"longest":{"from":386,"to":16000,"from_ms":48.250,"to_ms":2000.000},"at_end":15614,"at_end_ms":1951.750}}"#;
+const SILENT: &str = r#"{"threshold_db":0,"factor":1,"hold_ms":0,"hold_samples":0,"hold_word":"exact","open":0,"spans":0,"first":null,"end":null,"quiet":{"longest":{"from":0,"to":16000,"from_ms":0.000,"to_ms":2000.000},"at_end":16000,"at_end_ms":2000.000}}"#;
+
+/// The JSON with these two runs.
+fn with_runs(first: &str, second: &str) -> String {
+    let heard = format!("{SPANS},{QUIET}");
+    json().replace(&heard, &format!(r#""eq":[],"runs":[{first},{second}]"#))
+}
 
 #[test]
 fn several_runs() {
-    let with = |first: &str| {
-        let runs = format!(r#""eq":[],"runs":[{first},{SILENT}]"#);
-        judged(&click(), &json().replace(SPANS, &runs), None)
-    };
+    let with = |first: &str| judged(&click(), &with_runs(first, SILENT), None);
     assert_eq!(
         with(RUN),
         Ok("16000 samples, 2 runs: as the Rust aims".into())
@@ -294,6 +397,17 @@ fn several_runs() {
             r#""hold_ms":100,"hold_samples":800"#,
             r#""hold_ms":50,"hold_samples":400"#,
         ),
+        (r#""from":386"#, r#""from":385"#),
+        (r#""to":16000"#, r#""to":15999"#),
+        (r#""from_ms":48.250"#, r#""from_ms":48.251"#),
+        (r#""to_ms":2000.000"#, r#""to_ms":2000.001"#),
+        (r#""at_end":15614"#, r#""at_end":15613"#),
+        (r#""at_end":15614"#, r#""at_end":16000"#),
+        (r#""at_end_ms":1951.750"#, r#""at_end_ms":1951.751"#),
+        (
+            r#"{"from":386,"to":16000,"from_ms":48.250,"to_ms":2000.000}"#,
+            "null",
+        ),
     ] {
         assert_eq!(RUN.matches(part).count(), 1, "{part}");
         assert!(with(&RUN.replace(part, other)).is_err(), "{other}");
@@ -304,8 +418,7 @@ fn several_runs() {
 #[test]
 fn words_of_several_runs() {
     let of = |run: &str, settings: &str| {
-        let runs = format!(r#""eq":[],"runs":[{run},{SILENT}]"#);
-        let json = json().replace(SPANS, &runs).replace(SETTINGS, settings);
+        let json = with_runs(run, SILENT).replace(SETTINGS, settings);
         judged(&click(), &json, None)
     };
     let cut = RUN

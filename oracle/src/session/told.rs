@@ -3,18 +3,29 @@ use super::json::{self, Json};
 use crate::gate::Gate;
 use std::str::FromStr;
 
-/// The first sample aimed open, and the first one after.
+/// The first sample aimed open, or quiet, and the first one after.
 pub type Span = (u64, u64);
+
+/// A sample, and the ms that it is said to be at.
+pub type Time = (u64, f64);
 
 /// What the tool says of one run over the recording.
 pub enum Heard {
-    /// Every span, and with them the times that it says: name, sample, ms.
+    /// Every span, and with them the times that it says.
     Spans {
         spans: Vec<Span>,
-        times: Vec<(u64, f64)>,
+        times: Vec<Time>,
         open: u64,
+        quiet: Quiet,
     },
     Runs(Vec<Run>),
+}
+
+/// The longest quiet stretch, how many samples were quiet at the end, and the times that are said of both.
+pub struct Quiet {
+    pub longest: Option<Span>,
+    pub at_end: u64,
+    pub times: Vec<Time>,
 }
 
 /// A hold in samples, and its word.
@@ -23,13 +34,15 @@ pub struct Hold {
     pub word: String,
 }
 
-/// A run of --compare: its settings, how many samples and spans, the first sample aimed open and the end of the last span.
+/// A run of --compare: its settings, how many samples and spans, the first sample aimed open and the end of the last span,
+/// and how long it was quiet.
 pub struct Run {
     pub gate: Gate,
     pub hold: Hold,
     pub open: u64,
     pub spans: u64,
     pub ends: Option<Span>,
+    pub quiet: Quiet,
 }
 
 /// A band's number, its dB and its worked numbers.
@@ -72,14 +85,14 @@ pub fn read(text: &str) -> Or<Told> {
         hold,
         bands: list("eq", bands)?.iter().map(band).collect::<Or<_>>()?,
         heard: match *last {
-            [spans, open] => heard(list("spans", spans)?, parsed("open", open)?)?,
+            [spans, open, quiet] => heard(list("spans", spans)?, open, quiet)?,
             _ => Heard::Runs(runs(list("runs", last[0])?, gate)?),
         },
     })
 }
 
-const WITH_SPANS: [&str; 8] = [
-    "file", "rate", "samples", "ms", "settings", "eq", "spans", "open",
+const WITH_SPANS: [&str; 9] = [
+    "file", "rate", "samples", "ms", "settings", "eq", "spans", "open", "quiet",
 ];
 const WITH_RUNS: [&str; 7] = ["file", "rate", "samples", "ms", "settings", "eq", "runs"];
 
@@ -167,16 +180,47 @@ fn band(json: &Json) -> Or<Band> {
     Ok((parsed("band", values[0])?, parsed("db", values[1])?, worked))
 }
 
-fn heard(list: &[Json], open: u64) -> Or<Heard> {
+/// A span, and the times of its ends.
+fn span(json: &Json) -> Or<(Span, [Time; 2])> {
+    let [from, to, from_ms, to_ms] = fields(json, ["from", "to", "from_ms", "to_ms"])?;
+    let span = (parsed("from", from)?, parsed("to", to)?);
+    let from = (span.0, parsed("from_ms", from_ms)?);
+    let to = (span.1, parsed("to_ms", to_ms)?);
+    Ok((span, [from, to]))
+}
+
+fn heard(list: &[Json], open: &Json, quiet: &Json) -> Or<Heard> {
     let (mut spans, mut times) = (Vec::new(), Vec::new());
     for json in list {
-        let [from, to, from_ms, to_ms] = fields(json, ["from", "to", "from_ms", "to_ms"])?;
-        let span = (parsed("from", from)?, parsed("to", to)?);
-        times.push((span.0, parsed("from_ms", from_ms)?));
-        times.push((span.1, parsed("to_ms", to_ms)?));
+        let (span, ends) = span(json)?;
         spans.push(span);
+        times.extend(ends);
     }
-    Ok(Heard::Spans { spans, times, open })
+    Ok(Heard::Spans {
+        spans,
+        times,
+        open: parsed("open", open)?,
+        quiet: quieted(quiet)?,
+    })
+}
+
+fn quieted(json: &Json) -> Or<Quiet> {
+    let [longest, at_end, at_end_ms] = fields(json, ["longest", "at_end", "at_end_ms"])?;
+    let at_end = parsed("at_end", at_end)?;
+    let mut times = vec![(at_end, parsed("at_end_ms", at_end_ms)?)];
+    let longest = match longest {
+        Json::Null => None,
+        json => {
+            let (span, ends) = span(json)?;
+            times.extend(ends);
+            Some(span)
+        }
+    };
+    Ok(Quiet {
+        longest,
+        at_end,
+        times,
+    })
 }
 
 fn runs(list: &[Json], gate: Gate) -> Or<Vec<Run>> {
@@ -195,6 +239,7 @@ fn run(json: &Json, gate: Gate) -> Or<Run> {
         spans,
         first,
         end,
+        quiet,
     ] = fields(
         json,
         [
@@ -207,6 +252,7 @@ fn run(json: &Json, gate: Gate) -> Or<Run> {
             "spans",
             "first",
             "end",
+            "quiet",
         ],
     )?;
     let ends = match (first, end) {
@@ -224,5 +270,6 @@ fn run(json: &Json, gate: Gate) -> Or<Run> {
         open: parsed("open", open)?,
         spans: parsed("spans", spans)?,
         ends,
+        quiet: quieted(quiet)?,
     })
 }

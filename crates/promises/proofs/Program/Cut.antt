@@ -12,8 +12,6 @@ use borrow.Author.Tests.{eq-eqb}
 use Rattle.rounding.specs.Casts.{absolute}
 use Rattle.rounding.proofs.Smoothing.{sixty-four}
 use Rattle.answer.specs.Buffers.{over}
-use Rattle.answer.specs.Figures.{nought}
-use Rattle.answer.specs.Told.{doneWith}
 use Rattle.fold.specs.Fold.{stateAfter}
 use Rattle.pcm.specs.Samples.{sampleOf, heard}
 use Rattle.pcm.proofs.Reading.{heard-size, heard-fits}
@@ -25,7 +23,7 @@ use Rattle.noise_gate.specs.declared.Gate.{Gate}
 use Rattle.silence.proofs.Accepted.{Settable, Bounded, accepts}
 use Rattle.silence.proofs.OneSample.{next-bounded}
 use Rattle.pcm_gate.specs.Bytes.{wordsOf}
-use Rattle.pcm_gate.specs.Pass.{next, after, outputs, openCount, pass}
+use Rattle.pcm_gate.specs.Pass.{next, after, outputs, ran, pass}
 use Rattle.promises.specs.Program.{inTwo}
 use Rattle.promises.proofs.Program.Parts.{over-parts, after-parts, outputs-parts, counts-parts, outputs-length}
 
@@ -48,7 +46,7 @@ module _ (s : Settings) (a : Settable s) where
 
 -- ---- a call that is done
 module _ (g : Gate) (a : Settable (g .settings)) (b : Bounded (g .registers)) (input out : List ℕ) (same : length input ≡ length out) where
-  pub passes : pass g input out ≡ (doneWith (gateOf (g .settings) (after (g .settings) (g .registers) input)) (openCount (g .settings) (g .registers) input) nought, over (outputs (g .settings) (g .registers) input) out)
+  pub passes : pass g input out ≡ (ran (g .settings) (g .registers) input, over (outputs (g .settings) (g .registers) input) out)
   unfolding pass
   passes = rw (is-true (acceptable g) (accepts g a b), eq-eqb (length input) (length out) same)
     where

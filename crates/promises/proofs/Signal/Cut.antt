@@ -5,9 +5,8 @@ use mathlib.Core.Bool.{Bool}
 use mathlib.Core.List.{List, [], _∷_, _++_}
 use Prim.Native.Nat.{ℕ, _+_}
 use lib.Ieee.{Float}
-use Rattle.answer.specs.Figures.{nought}
 use Rattle.answer.specs.Blocks.{checkedBlock}
-use Rattle.answer.specs.Told.{Told, doneWith}
+use Rattle.answer.specs.Told.{Told, donePassed}
 use Rattle.answer.proofs.Refusals.{never-nought}
 use Rattle.answer.proofs.Told.{block-by}
 use Rattle.fold.specs.Fold.{stateAfter, outAfter}
@@ -26,10 +25,11 @@ pub record Run (S : Type 0) : Type 0 where
   pub outputs-parts : (s : S) (xs ys : List Float) → outputs s (xs ++ ys) ≡ outputs s xs ++ outputs (after s xs) ys
   pub count-parts : (s : S) (xs ys : List Float) → count s (xs ++ ys) ≡ count s xs + count (after s xs) ys
 
-module _ {S : Type 0} (run : Run S) where
+-- a gate's state has a quiet count, and any other's is 0
+module _ {S : Type 0} (run : Run S) (quiet : S → ℕ) where
   -- what is told of samples that were run, and what they give
   abbrev pub ran : S → List Float → Told S × List Float
-  ran s xs = (doneWith (run .after s xs) (run .count s xs) nought, run .outputs s xs)
+  ran s xs = (donePassed (run .after s xs) (run .count s xs) (quiet (run .after s xs)), run .outputs s xs)
 
   -- ---- blocks of which each, where it is done, has run its samples
   module _ (block : S → List Float → List Float → Told S × List Float) (runs : (s : S) (xs out : List Float) → block s xs out .0 .number ≡ 0 → block s xs out ≡ ran s xs) where
