@@ -1,40 +1,47 @@
-/* The longest quiet stretch, by the library's quiet count and nothing else: the library says which samples are
- * loud. A recording has fewer samples than that count can tell, so it never stops here. */
+/* The longest quiet stretch, by the library alone, which says which samples are loud. A recording has fewer
+ * samples than its quiet count can tell, so that never stops here. */
 #include "quiet.h"
+
+#include <string.h>
 
 static uint64_t length(const struct span *p)
 {
     return p->to - p->from;
 }
 
-/* The samples once more in pieces, from the gate as it was before them: as long as the longest stretch so far
- * and one sample, so that few pieces can have a longer one, and else of one sample. None is refused, for the
- * block was done. */
-static void again(struct quiet *q, hoofglaze_gate g, uint64_t at, const float *input, size_t samples)
+/* Of each sample of a done block whether it is loud: a gate that holds for no sample aims open at those alone. */
+static const uint8_t *loud_in(hoofglaze_gate g, const float *input, size_t samples)
 {
-    float gated[BLOCK];
-    uint64_t longer = length(&q->longest) + 1;
-    size_t piece = longer < samples ? (size_t)longer : 1;
-    for (size_t i = 0; i < samples; i += piece) {
-        const hoofglaze_gate before = g;
-        size_t n = piece < samples - i ? piece : samples - i;
-        hoofglaze_answer a = hoofglaze_gate_block_in_place(&g, input + i, n, gated, n);
-        quiet_heard(q, &before, at + i, input + i, n, a.quiet);
+    static float unheard[BLOCK];
+    static uint8_t loud[BLOCK];
+    g.registers.counter = 0;
+    g = hoofglaze_gate_set_hold(g, 0).gate;
+    hoofglaze_gate_record(g, input, samples, unheard, samples, loud, samples);
+    return loud;
+}
+
+/* The stretches that a loud sample of the block ends. Of those as long the first is kept. */
+static void ended(struct quiet *q, uint64_t at, const uint8_t *loud, size_t samples)
+{
+    uint64_t from = at - q->now;
+    const uint8_t *next = loud;
+    while ((next = memchr(next, 1, samples - (size_t)(next - loud))) != 0) {
+        struct span p = {from, at + (uint64_t)(next - loud)};
+        if (length(&p) > length(&q->longest))
+            q->longest = p;
+        from = p.to + 1;
+        next++;
     }
 }
 
 /* The count has grown by the block unless a sample of it is loud; a stretch that ended in it is no longer then
- * than what lies before the latest such. Of those as long the first is kept. */
+ * than what lies before the latest such. */
 void quiet_heard(struct quiet *q, const hoofglaze_gate *before, uint64_t at, const float *input, size_t samples,
                  uint32_t told)
 {
     uint64_t grown = q->now + samples;
-    if (told < grown && grown - told - 1 > length(&q->longest)) {
-        if (samples == 1)
-            q->longest = (struct span){at - q->now, at};
-        else
-            again(q, *before, at, input, samples);
-    }
+    if (told < grown && grown - told - 1 > length(&q->longest))
+        ended(q, at, loud_in(*before, input, samples), samples);
     q->now = told;
 }
 

@@ -1,9 +1,9 @@
 -- W10's count, proved of every made gate and any calls, and of every state that is loaded.
 -- Assumes nothing.
 use mathlib.Core.Path.{_≡_, refl, sym, ap, _∙_, subst}
-use mathlib.Core.Logic.{_⊎_, inl, inr}
-use mathlib.Core.Bool.{Bool, true, false, cond, _&&_}
-use mathlib.Core.List.{List, [], _∷_, _++_}
+use mathlib.Core.Logic.{inl, inr}
+use mathlib.Core.Bool.{Bool, true, false, cond}
+use mathlib.Core.List.{List, [], _∷_}
 use Prim.Native.Nat.{ℕ, suc, _≤_, min}
 use native.Mathlib.Omega.{arith}
 use lib.Dec.{T}
@@ -24,8 +24,7 @@ use Rattle.noise_gate.specs.Bounds.{inBounds, acceptable}
 use Rattle.noise_gate.specs.Calls.{atRest, make, load, setTyped, setFound, set, reset, block}
 use Rattle.silence.specs.History.{Call, Block, SetTyped, Set, Reset, answered, carried, Sample, sample, allF32, InF32, SettingsF32}
 use Rattle.silence.specs.Demand3.{samplesAfter, history, Loud, NoneLoud, Held, Promised, Each}
-use Rattle.silence.specs.Quiet.{Latest, QuietFor, carriedBy, Quieted, Near, AimsBy, Quiet, Loaded}
-use Rattle.noise_gate_settings.specs.declared.Settings.{Settings}
+use Rattle.silence.specs.Quiet.{Latest, QuietFor, carriedBy, Near, AimsBy, Quiet, Loaded}
 use Rattle.noise_gate_settings.specs.declared.Setting.{Setting}
 use Rattle.noise_gate_settings.specs.declared.Named.{Named}
 use Rattle.noise_gate_settings.specs.declared.Named.the-variants.{Known, Unknown}

@@ -3,26 +3,24 @@
 use mathlib.Core.Path.{_≡_, refl, sym, ap, _∙_, subst}
 use mathlib.Core.Bool.{Bool, true, false}
 use mathlib.Core.List.{List, [], _∷_}
-use Prim.Native.Nat.{ℕ, suc, min}
+use Prim.Native.Nat.{ℕ}
 use lib.Dec.{eqb}
 use lib.ListN.{length}
 use lib.Ieee.{Float}
 use Rattle.fold.specs.Fold.{more, stateAfter, outAfter, countAfter}
 use Rattle.answer.specs.Checks.{checkBlock}
-use Rattle.answer.specs.Told.{Told, refused, unless, whereDone}
+use Rattle.answer.specs.Told.{Told, unless, whereDone}
 use Rattle.answer.specs.Blocks.{passing, checkedBlock}
-use Rattle.answer.specs.declared.Refusal.{Refusal}
-use Rattle.answer.specs.declared.Refusal.the-variants.{BadState}
 use Rattle.answer.specs.declared.Check.{Check}
 use Rattle.answer.specs.declared.Check.the-variants.{Accepted, Refused}
 use Rattle.noise_gate_sample.specs.Step.{level, loud, counter, aim, target, state, gain, output, quiet, next}
 use Rattle.noise_gate_settings.specs.Ranges.{inItsRange, worked}
 use Rattle.noise_gate_settings.specs.Names.{named}
 use Rattle.noise_gate.specs.Bounds.{inBounds, acceptable}
-use Rattle.noise_gate.specs.Calls.{gateOf, byteAt, after, outputs, aimed, openCount, ran, setTyped, setFound, set, reset, block, blockRecorded}
+use Rattle.noise_gate.specs.Calls.{byteAt, after, outputs, aimed, openCount, ran, setTyped, setFound, set, reset, block, blockRecorded}
 use Rattle.silence.specs.History.{Call, Block, SetTyped, Set, Reset, answered, carried, Sample, sample, heard}
-use Rattle.silence.specs.Demand3.{samplesAfter, history, leftAt, aimedOpen, outputsOf, Promised, Each, Silence}
-use Rattle.silence.specs.Quiet.{withQuiet, butQuiet, Alike, Unheard, Stays}
+use Rattle.silence.specs.Demand3.{samplesAfter, history, leftAt, aimedOpen, outputsOf, Promised, Each}
+use Rattle.silence.specs.Quiet.{withQuiet, butQuiet, Unheard, Stays}
 use Rattle.noise_gate_settings.specs.declared.Settings.{Settings}
 use Rattle.noise_gate_settings.specs.declared.Setting.{Setting}
 use Rattle.noise_gate_settings.specs.declared.Named.{Named}
