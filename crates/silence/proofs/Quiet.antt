@@ -24,7 +24,7 @@ use Rattle.noise_gate.specs.Bounds.{inBounds, acceptable}
 use Rattle.noise_gate.specs.Calls.{atRest, make, load, setTyped, setFound, set, reset, block}
 use Rattle.silence.specs.History.{Call, Block, SetTyped, Set, Reset, answered, carried, Sample, sample, allF32, InF32, SettingsF32}
 use Rattle.silence.specs.Demand3.{samplesAfter, history, Loud, NoneLoud, Held, Promised, Each}
-use Rattle.silence.specs.Quiet.{Latest, QuietFor, carriedBy, Near, AimsBy, Quiet, Loaded}
+use Rattle.silence.specs.Quiet.{Latest, QuietFor, OneFigure, carriedBy, Near, AimsBy, Quiet, Loaded}
 use Rattle.noise_gate_settings.specs.declared.Setting.{Setting}
 use Rattle.noise_gate_settings.specs.declared.Named.{Named}
 use Rattle.noise_gate_settings.specs.declared.Named.the-variants.{Known, Unknown}
@@ -109,6 +109,15 @@ figure-is : (h later : List Sample) (n : ℕ) → Latest h later → QuietFor h 
 figure-is h later n p q = elim (q .since) [
   | inl l ↦ q .figure ∙ ap (λ (k : ℕ). min k longestQuiet) (meets h (q .later) later l p)
   | inr a ↦ absurd (none-met h later (a .1) p)
+]
+
+pub one-figure : OneFigure
+one-figure h m n p q = elim (p .since) [
+  | inl l ↦ p .figure ∙ sym (figure-is h (p .later) n l q)
+  | inr a ↦ elim (q .since) [
+    | inl l ↦ absurd (none-met h (q .later) (a .1) l)
+    | inr b ↦ p .figure ∙ ap (λ (k : List Sample). min (length k) longestQuiet) (sym (a .0) ∙ b .0) ∙ sym (q .figure)
+  ]
 ]
 
 near-by : (e : Sample) (past : List Sample) (n : ℕ) → QuietFor (e ∷ past) n → Held e past → Near e past n

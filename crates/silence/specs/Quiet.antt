@@ -1,5 +1,5 @@
 -- Document 02's W10, how long it has been quiet: what the quiet count means in a gate that a host carries from call to call, in demand 3's words, and that nothing else looks at it. A quoted line is W10's.
--- The statements are `Quiet`, `Loaded`, `Unheard` and `Stays`; `proofs/Quiet.antt` and `proofs/Unheard.antt` prove them. Definitions only. Assumes nothing.
+-- The statements are `OneFigure`, `Quiet`, `Loaded`, `Unheard` and `Stays`; `proofs/Quiet.antt` and `proofs/Unheard.antt` prove them. Definitions only. Assumes nothing.
 use mathlib.Core.Path.{_≡_}
 use mathlib.Core.Logic.{_↔_, _⊎_}
 use mathlib.Core.List.{List, [], _∷_, _++_}
@@ -28,6 +28,10 @@ pub record QuietFor (h : List Sample) (n : ℕ) : Type 0 where
   pub later : List Sample
   pub since : Latest h later ⊎ ((h ≡ later) × NoneLoud h)
   pub figure : n ≡ min (length later) longestQuiet
+
+-- there is one such figure
+abbrev pub OneFigure : Type 0
+OneFigure = (h : List Sample) (m n : ℕ) → QuietFor h m → QuietFor h n → m ≡ n
 
 -- ---- what a call's answer t carries: "The block's answer carries its figure after the last sample." A refusal carries 0, and so does any other call
 abbrev pub carriedBy : Call → Told Gate → ℕ
