@@ -115,7 +115,7 @@ static void makings(void)
 
 const struct named named[NAMED] = {
     {"threshold", 1, 2, -80, 0}, {"ratio", 3, -1, 1, 100},  {"attack", 4, 5, 0.1f, 100},
-    {"release", 6, 7, 1, 1000},  {"hold", 8, -1, 0, 2000},
+    {"release", 6, 7, 1, 1000},  {"hold", 8, -1, 0, 500},
 };
 
 static int takes(const struct named *n, float worked)
@@ -187,7 +187,7 @@ static void settings(void)
 {
     group("gate: settings, refused by 3, then 4; by name, in place, typed; and read");
     hoofglaze_gate g = made(48000, 0.5f, 0.75f);
-    g.registers = (hoofglaze_gate_registers){3.5f, 0.25f, MOST_COUNTER, 4100};
+    g.registers = (hoofglaze_gate_registers){3.5f, 0.25f, 77, 4100};
     for (int i = 0; i < NAMED; i++) {
         const struct named *n = &named[i];
         uint32_t values[] = {bytes32(n->lowest), bytes32(n->highest), bytes32((n->lowest + n->highest) / 2),
@@ -210,7 +210,7 @@ static void strange_names(void)
 {
     group("gate: a name that is no setting, refused by 1 before 3 and 4");
     hoofglaze_gate g = made(44100, 0, 0);
-    g.registers = (hoofglaze_gate_registers){64, 1, MOST_COUNTER, UINT32_MAX};
+    g.registers = (hoofglaze_gate_registers){64, 1, 96000, UINT32_MAX};
     for (int i = 0; i <= COUNT(strange); i++) {
         /* the last name has a byte 0 in it */
         const char *name = i < COUNT(strange) ? strange[i] : "hold";

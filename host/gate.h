@@ -7,9 +7,6 @@
 
 enum { SETTINGS = 11, NAMED = 5, HOLD = 4 };
 
-/* The highest counter: 2,000 ms, the longest hold, at 192,000 Hz. */
-enum { MOST_COUNTER = 384000 };
-
 struct named {
     const char *name;
     int place, worked; /* where the value and the worked number are kept; -1 where it takes none */
@@ -47,7 +44,7 @@ hoofglaze_gate heard(hoofglaze_gate g);
 void check_holds(hoofglaze_gate g, float loud, size_t open);
 
 /* The calls that run a block: by value, in place, and with a record, whose aims are left below. */
-enum { WITH_RECORD = 2, FORMS = 3 };
+enum { FORMS = 3 };
 
 extern const struct form {
     const char *name;

@@ -2,7 +2,7 @@
  * gate then holds H; and that no other call tells either. */
 #include "gate.h"
 
-enum { MILLISECONDS = 2001, DRAWN = 3000 };
+enum { MILLISECONDS = 501, DRAWN = 3000 };
 
 static const uint8_t hold_name[] = {'h', 'o', 'l', 'd'};
 
@@ -64,8 +64,8 @@ static void each_millisecond(void)
     static const struct {
         uint32_t rate;
         int cut;
-    } rates[] = {{8000, 1162}, {44100, 1903}, {48000, 1068}, {96000, 1068}, {192000, 1068}};
-    group("gate: each whole millisecond of a hold; 1,068 are cut at 48,000 Hz, and none loses a sample");
+    } rates[] = {{8000, 282}, {44100, 473}, {48000, 262}, {96000, 262}, {192000, 262}};
+    group("gate: each whole millisecond of a hold; 262 are cut at 48,000 Hz, and none loses a sample");
     for (int i = 0; i < COUNT(rates); i++) {
         struct tally t = tallied(rates[i].rate);
         check("holds that are cut", t.cut, rates[i].cut, rates[i].rate, 0, 0);
@@ -78,30 +78,16 @@ static void each_millisecond(void)
 
 static void any_hold(void)
 {
-    /* 500 ms, the longest before version 10, and 2,000 ms with those next to them */
-    static const uint32_t ends[] = {0, SIGN, 1, 0x007fffff, 0x00800000, ONE, 0x43f9ffff, 0x43fa0000,
-                                    0x43fa0001, 0x44f9ffff, 0x44fa0000};
+    static const uint32_t ends[] = {0, SIGN, 1, 0x007fffff, 0x00800000, ONE, 0x43f9ffff, 0x43fa0000};
     group("gate: any hold at any rate, exact or cut");
     for (int i = 0; i < COUNT(ends); i++)
         for (int j = 0; j < COUNT(good_rate); j++)
             check_set_hold(at_rate(good_rate[j]), float_of(ends[i]));
     for (int i = 0; i < DRAWN; i++) {
         hoofglaze_gate g = at_rate((float)between(8000, 192000));
-        check_set_hold(g, float_of(between(0, 0x44fa0000)));
-        check_set_hold(g, (float)between(0, 16000) / 8);
-        check_set_hold(g, (float)between(0, 2000000) / 1000);
-    }
-}
-
-/* ---- the longest */
-
-static void longest_hold(void)
-{
-    group("gate: 2,000 ms are exact at every rate, twice as many samples as a second has");
-    for (uint32_t rate = 8000; rate <= 192000; rate++) {
-        hoofglaze_gate_answered a = hoofglaze_gate_set_hold(at_rate((float)rate), 2000);
-        check_hold_answer("gate_set_hold", a.answer, (hoofglaze_truncation){2 * rate, HOOFGLAZE_EXACT});
-        check_counter(a.gate, 2 * rate);
+        check_set_hold(g, float_of(between(0, 0x43fa0000)));
+        check_set_hold(g, (float)between(0, 4000) / 8);
+        check_set_hold(g, (float)between(0, 500000) / 1000);
     }
 }
 
@@ -122,7 +108,6 @@ static void holds(void)
         {20, 44100, {882, HOOFGLAZE_CUT}},      {33.3f, 44100, {1468, HOOFGLAZE_CUT}},
         {30, 44100, {1323, HOOFGLAZE_EXACT}},   {500, 44100, {22050, HOOFGLAZE_EXACT}},
         {7.25f, 96000, {696, HOOFGLAZE_EXACT}}, {500, 192000, {96000, HOOFGLAZE_EXACT}},
-        {1999, 44100, {88155, HOOFGLAZE_CUT}},  {2000, 192000, {384000, HOOFGLAZE_EXACT}},
     };
     group("gate: H is what the gate holds, whether exact or cut");
     for (int i = 0; i < COUNT(known); i++) {
@@ -144,10 +129,10 @@ static void check_refused(hoofglaze_gate g, float hold, uint32_t number)
 
 static void refused_holds(hoofglaze_gate g)
 {
-    static const uint32_t values[] = {0x44fa0001, SIGN + 1, SIGN + ONE, 0x7f7fffff, INFINITE, SIGN + INFINITE,
+    static const uint32_t values[] = {0x43fa0001, SIGN + 1, SIGN + ONE, 0x7f7fffff, INFINITE, SIGN + INFINITE,
                                       QUIET32, ODD_NAN};
     hoofglaze_gate bad = g;
-    bad.registers.counter = MOST_COUNTER + 1;
+    bad.registers.counter = 96001;
     for (int i = 0; i < COUNT(values); i++) {
         check_refused(g, float_of(values[i]), 3);
         check_refused(bad, float_of(values[i]), 9);
@@ -230,7 +215,6 @@ void cut_checks(void)
 {
     each_millisecond();
     any_hold();
-    longest_hold();
     holds();
     no_other();
 }

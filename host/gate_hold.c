@@ -1,8 +1,9 @@
-/* Checks of how long a gate holds: 100 ms where it was made and nothing but its threshold set, as long as it was
- * kept with where a host kept it, and 2,000 ms at most. */
+/* Checks of how long a gate holds: 100 ms where it was made and nothing but its threshold set, and as long as it
+ * was kept with where a host kept it. */
 #include "gate.h"
 
-enum { BEFORE = 3, BEHIND = 5, MOST = BEFORE + MOST_COUNTER + BEHIND };
+/* The longest hold: 500 ms at 192,000 Hz. */
+enum { BEFORE = 3, BEHIND = 5, MOST = BEFORE + 96000 + BEHIND };
 
 static float sound[MOST], passed[MOST];
 static uint8_t aims[MOST];
@@ -127,46 +128,8 @@ static void holds_as_kept(void)
     check_former("gate_set_hold", set.gate);
 }
 
-/* ---- the longest */
-
-static size_t lower(size_t a, size_t b)
-{
-    return a < b ? a : b;
-}
-
-/* The block of so many samples that begins a while after the loud one, which is the first of all. */
-static hoofglaze_gate check_longest(const struct form *f, hoofglaze_gate g, size_t from, size_t n)
-{
-    size_t last = from + n - 1, open = lower(from + n, MOST_COUNTER) - lower(from, MOST_COUNTER), wrong = 0;
-    memset(aims_of_form, 0xa5, sizeof aims_of_form);
-    hoofglaze_gate_answered a = f->run(g, sound + from, n, passed, n);
-    check_block_answer(f->name, a.answer, open, (uint32_t)last);
-    check(f->name, a.gate.registers.counter, MOST_COUNTER - lower(last, MOST_COUNTER), from, n, 0);
-    for (size_t i = 0; i < n; i++)
-        wrong += aims_of_form[i] != (i < open);
-    if (f == &forms[WITH_RECORD])
-        check(f->name, wrong, 0, from, n, 0);
-    return a.gate;
-}
-
-static void holds_longest(void)
-{
-    group("gate: 2,000 ms at 192,000 Hz: a loud sample, and 383,999 behind it, through blocks");
-    hoofglaze_gate_answered a = set_typed(heard(made(192000, 0, 0)), HOLD, 2000, 0);
-    check_hold_answer("gate_set_hold", a.answer, (hoofglaze_truncation){MOST_COUNTER, HOOFGLAZE_EXACT});
-    memset(sound, 0, sizeof sound);
-    check_open(gate_of(kept, (hoofglaze_gate_registers){0, 1, MOST_COUNTER, 5}), 0, MOST_COUNTER - 1, MOST);
-    sound[0] = 0.5f;
-    for (int i = 0; i < FORMS; i++) {
-        hoofglaze_gate g = a.gate;
-        for (size_t from = 0; from < MOST; from += LONGEST)
-            g = check_longest(&forms[i], g, from, lower(LONGEST, MOST - from));
-    }
-}
-
 void hold_checks(void)
 {
     holds_as_made();
     holds_as_kept();
-    holds_longest();
 }

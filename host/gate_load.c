@@ -40,13 +40,13 @@ static const struct {
     float lowest, highest;
     int below; /* the highest is none of them */
 } ranges[COUNTER] = {
-    {8000, 192000, 0}, {-80, 0, 0},  {0x1p-14f, 1, 0}, {1, 100, 0}, {0.1f, 100, 0}, {0, 1, 1}, {1, 1000, 0},
-    {0, 1, 1},         {0, 2000, 0}, {0, 1, 1},        {0, 1, 1},   {0, 64, 0},     {0, 1, 0},
+    {8000, 192000, 0}, {-80, 0, 0}, {0x1p-14f, 1, 0}, {1, 100, 0}, {0.1f, 100, 0}, {0, 1, 1}, {1, 1000, 0},
+    {0, 1, 1},         {0, 500, 0}, {0, 1, 1},        {0, 1, 1},   {0, 64, 0},     {0, 1, 0},
 };
 
 static int is_accepted(const hoofglaze_gate_before *b)
 {
-    int accepted = b->registers.counter <= MOST_COUNTER;
+    int accepted = b->registers.counter <= 96000;
     for (int i = 0; i < COUNTER; i++) {
         float x = float_of((uint32_t)number_of(b, i));
         accepted &= x >= ranges[i].lowest && (ranges[i].below ? x < ranges[i].highest : x <= ranges[i].highest);
@@ -94,7 +94,7 @@ static hoofglaze_gate check_load(hoofglaze_gate_before b)
 /* One that was made, set and run, with any count. */
 static hoofglaze_gate at_work(void)
 {
-    static const float holds[] = {0, 0.25f, 1, 30, 500, 2000};
+    static const float holds[] = {0, 0.25f, 1, 30, 500};
     hoofglaze_gate g = made(good_rate[drawn() % GOOD_RATES], float_of(between(0, BELOW_ONE)),
                             float_of(between(0, BELOW_ONE)));
     size_t n = drawn() % 200;
@@ -117,7 +117,7 @@ static hoofglaze_gate_before any_kept(int i)
         uint32_t end = bytes32(drawn() % 2 ? ranges[which].lowest : ranges[which].highest);
         put(&b, which, end + (uint32_t)(drawn() % 3) - 1);
     } else if (i % 4 == 1) {
-        put(&b, which, MOST_COUNTER - 1 + drawn() % 3);
+        put(&b, which, 95999 + drawn() % 3);
     } else if (i % 4 == 2) {
         put(&b, which, which == COUNTER ? drawn() : nan_bits(SIGN, INFINITE, (int)(drawn() % NANS)));
     } else if (i % 4 == 3) {
@@ -158,45 +158,6 @@ static void prefixes(void)
         hoofglaze_gate g = at_work(), loaded = check_load(kept_of(g));
         g.registers.quiet = 0;
         check_gate("gate_load", &loaded, &g);
-    }
-}
-
-/* ---- up to version 9 a hold was 500 ms at most, and a counter 96,000 */
-
-/* One in four at that end. */
-static uint32_t former_hold(void)
-{
-    uint32_t longest = bytes32(500);
-    return drawn() % 4 ? between(0, longest) : longest;
-}
-
-static uint64_t former_counter(void)
-{
-    return drawn() % 4 ? drawn() % 96001 : 96000;
-}
-
-/* What a setting or register could be. */
-static uint32_t formerly(int i)
-{
-    if (i == 0)
-        return bytes32((float)between(8000, 192000));
-    if (i == named[HOLD].place)
-        return former_hold();
-    if (ranges[i].lowest < 0)
-        return SIGN + between(0, bytes32(-ranges[i].lowest));
-    return between(bytes32(ranges[i].lowest), bytes32(ranges[i].highest) - (uint32_t)ranges[i].below);
-}
-
-static void formerly_accepted(void)
-{
-    group("gate: what the versions before 10 accepted is accepted");
-    for (int i = 0; i < LOADED; i++) {
-        hoofglaze_gate_before b;
-        for (int j = 0; j < COUNTER; j++)
-            put(&b, j, formerly(j));
-        put(&b, COUNTER, former_counter());
-        check("a former gate", is_accepted(&b), 1, i, 0, 0);
-        check_load(b);
     }
 }
 
@@ -245,7 +206,7 @@ static void both_set(struct twins *t)
 {
     static const float values[] = {-20, 7, 3, 40, 2.5f};
     int i = (int)(drawn() % NAMED);
-    float value = drawn() % 4 ? values[i] : 2001, worked = float_of(between(0x3c000000, BELOW_ONE));
+    float value = drawn() % 4 ? values[i] : 2000, worked = float_of(between(0x3c000000, BELOW_ONE));
     const uint8_t *name = (const uint8_t *)named[i].name;
     hoofglaze_gate_answered a = set_typed(t->one, i, value, worked), b = set_typed(t->other, i, value, worked);
     check_alike(named[i].name, a, b);
@@ -281,6 +242,5 @@ void load_checks(void)
 {
     loads();
     prefixes();
-    formerly_accepted();
     on_count();
 }

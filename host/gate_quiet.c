@@ -147,7 +147,7 @@ static void check_refused_settings(hoofglaze_gate g, uint32_t number, const char
 /* By 9, of a gate whose counter is too high. */
 static void check_refused_gate(hoofglaze_gate g)
 {
-    g.registers.counter = MOST_COUNTER + 1;
+    g.registers.counter = 96001;
     hoofglaze_gate_answered lying = {.gate = g};
     lying.answer = hoofglaze_gate_reset_in_place(&lying.gate);
     check_told("gate_reset_in_place", lying, 9, g);

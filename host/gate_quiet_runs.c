@@ -22,7 +22,7 @@ static struct pair set_up(void)
 {
     hoofglaze_gate g = made(8000, float_of(between(0, BELOW_ONE)), float_of(between(0, BELOW_ONE)));
     g = set_typed(g, 0, -12, float_of(between(0x3c000000, ONE))).gate;
-    return (struct pair){set_typed(g, HOLD, (float)(drawn() % 16000) / 8, 0).gate,
+    return (struct pair){set_typed(g, HOLD, (float)(drawn() % 4000) / 8, 0).gate,
                          set_typed(g, HOLD, 0, 0).gate, 0};
 }
 

@@ -14,7 +14,7 @@
 #include <stdint.h>
 
 /* Grows by one with each release that a host can tell from the one before; docs/RELEASES.md says how. */
-#define HOOFGLAZE_VERSION 10
+#define HOOFGLAZE_VERSION 9
 
 #ifdef __cplusplus
 extern "C" {
@@ -206,7 +206,7 @@ typedef struct {
     float ratio;                  /* 1 to 100 */
     float attack, opening;        /* 0.1 to 100 ms, and its smoothing number, from 0 to below 1 */
     float release, closing;       /* 1 to 1,000 ms, and its smoothing number, from 0 to below 1 */
-    float hold;                   /* 0 to 2,000 ms */
+    float hold;                   /* 0 to 500 ms */
     float rising, falling;        /* the follower's attack and release numbers, from 0 to below 1 */
 } hoofglaze_gate_settings;
 
@@ -214,7 +214,7 @@ typedef struct {
 typedef struct {
     float level;      /* 0 to 64 */
     float state;      /* 0 to 1 */
-    uint64_t counter; /* 0 to 384,000 */
+    uint64_t counter; /* 0 to 96,000 */
     uint32_t quiet;   /* any */
 } hoofglaze_gate_registers;
 
@@ -257,8 +257,8 @@ hoofglaze_gate hoofglaze_gate_load(hoofglaze_gate_before g);
  *
  * Where the hold is set, the answer has H, and exact or cut: the word of H's truncation. It speaks of the
  * float product (hold*0.001)*rate and not of hold*rate/1000: 1/16 ms at 48,000 Hz is 3 samples, but that
- * product is 3.0000002, so cut, with H = 3; 50 ms there is exact, 2400. Of the whole milliseconds 0 to 2,000
- * at 48,000 Hz 1,068 are cut, and none of them loses a sample. So show H beside the word: H is what the gate
+ * product is 3.0000002, so cut, with H = 3; 50 ms there is exact, 2400. Of the whole milliseconds 0 to 500
+ * at 48,000 Hz 262 are cut, and none of them loses a sample. So show H beside the word: H is what the gate
  * holds. Every other setting that is done tells neither, and so does a refusal: 0 and 0. */
 hoofglaze_gate_answered hoofglaze_gate_set(hoofglaze_gate g, const uint8_t *name, size_t bytes,
                                            float value, float worked);

@@ -148,9 +148,7 @@ static void hold_given(void)
 {
     hold_at(30, (hoofglaze_answer){.samples = 1323, .word = 1});
     hold_at(33, (hoofglaze_answer){.samples = 1455, .word = 2});
-    hold_at(501, (hoofglaze_answer){.samples = 22094, .word = 2});
-    hold_at(2000, (hoofglaze_answer){.samples = 88200, .word = 1});
-    hold_at(2001, (hoofglaze_answer){.number = 3});
+    hold_at(501, (hoofglaze_answer){.number = 3});
 }
 
 /* The aims' length is the argument that lies behind the gate. */

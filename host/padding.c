@@ -48,7 +48,7 @@ static void hold_set(void)
     check_hold_answer("gate_set_in_place", hoofglaze_gate_set_in_place(&lying.gate, hold, 4, 31, 0),
                       (hoofglaze_truncation){1488, HOOFGLAZE_CUT});
     check_between("gate_set_in_place", 0);
-    check_padding("gate_set_in_place", hoofglaze_gate_set_in_place(&lying.gate, hold, 4, 2001, 0), 3);
+    check_padding("gate_set_in_place", hoofglaze_gate_set_in_place(&lying.gate, hold, 4, 501, 0), 3);
 }
 
 static void blocks(void)

@@ -14,7 +14,7 @@ const struct setting settings[SETTINGS] = {
     [RATIO] = {"ratio", PLAIN, "1 to 100", 10},
     [ATTACK] = {"attack", TIME, "0.1 to 100 ms", 1},
     [RELEASE] = {"release", TIME, "1 to 1,000 ms", 100},
-    [HOLD] = {"hold", TIME, "0 to 2,000 ms", 100},
+    [HOLD] = {"hold", TIME, "0 to 500 ms", 100},
 };
 
 /* Of which a value's range is asked: it is the same at every rate. */

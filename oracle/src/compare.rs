@@ -13,8 +13,8 @@ use std::{
 /// memory.
 const PART: u64 = 20_000;
 
-/// Hands `program` what every comparison begins with, then new lists, in all `cases` of each kind, and answers
-/// how many calls of each kind were compared, or what differs first.
+/// Hands `program` new lists, in all `cases` of each kind, and answers how many calls of each kind
+/// were compared, or what differs first.
 pub fn compare(
     stage: &dyn Replay,
     seed: u64,
@@ -23,30 +23,17 @@ pub fn compare(
 ) -> Result<Counts, String> {
     let mut random = Random::new(seed);
     let mut counts = Counts::new();
-    if let Some(calls) = stage.always() {
-        compare_list(stage, &calls, program, &mut counts)?;
-    }
     let mut left = cases;
     while left > 0 {
         let part = left.min(PART);
         let calls = stage.generated(&mut random, part);
-        compare_list(stage, &calls, program, &mut counts)?;
+        hold(stage, &calls, program)?;
+        for (kind, count) in stage.counts(&calls) {
+            *counts.entry(kind).or_default() += count;
+        }
         left -= part;
     }
     Ok(counts)
-}
-
-fn compare_list(
-    stage: &dyn Replay,
-    calls: &[u8],
-    program: &[String],
-    counts: &mut Counts,
-) -> Result<(), String> {
-    hold(stage, calls, program)?;
-    for (kind, count) in stage.counts(calls) {
-        *counts.entry(kind).or_default() += count;
-    }
-    Ok(())
 }
 
 /// Hands `program` a list, and says what differs first: of its answers, or of what it says on standard

@@ -7,11 +7,6 @@ pub trait Replay: Sync {
     /// The list that is kept.
     fn stored(&self) -> Vec<u8>;
 
-    /// The list that every comparison begins with, where there is one.
-    fn always(&self) -> Option<Vec<u8>> {
-        None
-    }
-
     /// A new list, of `cases` of each kind that the stage has.
     fn generated(&self, random: &mut Random, cases: u64) -> Vec<u8>;
 

@@ -66,20 +66,6 @@ fn a_gate_holds_by_truncation() {
     }
 }
 
-/// A setting ends at 500 ms; a gate can be made with a longer hold.
-#[test]
-fn a_gate_is_made_with_a_hold_that_no_setting_takes() {
-    let mut gate = NoiseGateStage::new(0.0, 10.0, 1.0, 2_000.0, 100.0, 192_000.0);
-    assert_eq!(gate.get_parameter("hold"), Ok(2_000.0));
-    assert_eq!(gate.hold_samples(), 384_000);
-    for hold in [500.000_03, 500.000_06, 501.0, 2_000.0] {
-        assert!(gate.set_parameter("hold", hold).is_err(), "{hold}");
-        assert_eq!(gate.hold_samples(), 384_000);
-    }
-    assert_eq!(gate.set_parameter("hold", 500.0), Ok(()));
-    assert_eq!(gate.hold_samples(), 96_000);
-}
-
 #[test]
 fn a_band_takes_its_numbers() {
     let mut eq = EqStage::new([0.0; 16], 48_000.0);

@@ -27,11 +27,11 @@ back-is-whole m e = go (eqb (m * up e % down e) 0) refl
     go false h = rw (ne_eqb (m * up e / down e * 1 * down e) (m * up e * 1) (λ g. eqb-false (m * up e % down e) 0 h (omega (arith, div-add-mod' (m * up e) (down e), g))))
 
 -- ---- of x above zero, up to the highest rate
-pub part-most : (x : Float) → T (positive x) → T (le x (f32 highest_rate 1)) → num x / den x ≤ highest_rate
+part-most : (x : Float) → T (positive x) → T (le x (f32 highest_rate 1)) → num x / den x ≤ highest_rate
 unfolding f32
 part-most x p h = div-le_of_le-mul (den x) (omega (arith, values_of_le x (f32 highest_rate 1) (num x) (den x) highest_rate 1 p tt (own_value x p) (refl, refl) h))
 
-pub cut-part : (x : Float) → T (positive x) → num x / den x ≤ highest_rate → to_unsigned 64 x ≡ num x / den x
+cut-part : (x : Float) → T (positive x) → num x / den x ≤ highest_rate → to_unsigned 64 x ≡ num x / den x
 unfolding to_unsigned
 cut-part nan p h = absurd p
 cut-part (inf s) p h = absurd p

@@ -8,7 +8,7 @@ use Rattle.noise_gate.specs.Figures.{longest_count}
 use Rattle.noise_gate_sample.specs.declared.Registers.{Registers}
 use Rattle.noise_gate.specs.declared.Gate.{Gate}
 
--- level 0 to 64, state 0 to 1, counter 0 to 384,000; any quiet count
+-- level 0 to 64, state 0 to 1, counter 0 to 96,000; any quiet count
 unfoldable pub in_bounds : Registers → Bool
 in_bounds m = in_range nought (f32 largest_sample 1) m.level && (in_range nought one m.state && leb m.counter longest_count)
 

@@ -6,6 +6,6 @@ use Rattle.std.specs.Prelude.{ℕ}
 abbrev pub made_hold : ℕ
 made_hold = 100
 
--- the longest hold in samples, the counter's bound: document 02's W12, where document 01 has 96,000
+-- the longest hold in samples: the counter's bound
 abbrev pub longest_count : ℕ
-longest_count = 384000
+longest_count = 96000

@@ -6,7 +6,7 @@ use crate::Gate;
 use answer::both;
 
 // The longest hold in samples.
-const LONGEST_COUNT: u64 = 384000;
+const LONGEST_COUNT: u64 = 96000;
 
 // Whether 9 lets the gate through.
 pub fn acceptable(g: Gate) -> bool

@@ -6,7 +6,7 @@ use crate::{Setting, Settings};
 use answer::{Decibels, Factor, Timed, both, settled32};
 
 // The longest hold that can be set, in milliseconds.
-const LONGEST_HOLD: f32 = 2000.0;
+const LONGEST_HOLD: f32 = 500.0;
 
 const LOWEST_FACTOR: f32 = 1.0 / 16384.0;
 

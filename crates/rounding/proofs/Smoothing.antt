@@ -331,7 +331,7 @@ share-of f (fin true n d) y h k l g = absurd (none (down d) (down_pos d) (eqb→
     none x h e = omega arith
 
 -- |x| ≤ y
-zero-le-absolute : (m : ℕ) (e : ℤ) → T (le nought (fin false m e))
+pub zero-le-absolute : (m : ℕ) (e : ℤ) → T (le nought (fin false m e))
 unfolding le
 zero-le-absolute m e = le-i false (0 * down e) false (m * up e * 1) (λ t. absurd t) (λ t. absurd t) (le_trans (le_of_eq (zero-mul (down e))) zero-le)
 

@@ -1,14 +1,15 @@
 -- The settings and the registers that 9 accepts, of f32s: making gives them and every setting keeps them. What holds of their numbers.
 -- Assumes nothing.
-use mathlib.Core.Bool.{true, ◌&&◌}
+use mathlib.Core.Bool.{true, false, ◌&&◌}
 use mathlib.Core.List.{[], ◌∷◌}
 use Prim.Native.Nat.{◌≤◌}
 use native.Mathlib.Omega.{arith}
 use lib.Dec.{T, leb, le→leb, leb→le}
-use lib.Ieee.{Float, binary32, lt, le, fits, neg}
+use lib.Ieee.{Float, nan, inf, fin, binary32, lt, le, fits, neg, whole}
+use lib.Ieee.Positive.{positive, between}
 use lib.Ieee.Fits.{and_i, and_l, and_r}
-use Rattle.rounding.proofs.Smoothing.{sixty-four, In, lt→le}
-use Rattle.answer.specs.Figures.{f32, nought, one, largest_sample}
+use Rattle.rounding.proofs.Smoothing.{sixty-four, In, lt→le, zero-le-absolute}
+use Rattle.answer.specs.Figures.{f32, nought, one, lowest_rate, highest_rate, largest_sample}
 use Rattle.answer.specs.Checks.{in_range, is_rate, is_smoothing}
 use Rattle.noise_gate_settings.specs.Figures.{longest_hold}
 use Rattle.noise_gate.specs.Figures.{longest_count}
@@ -22,7 +23,7 @@ use Rattle.noise_gate_sample.specs.declared.Registers.{Registers}
 use Rattle.noise_gate.specs.declared.Gate.{Gate}
 use Rattle.noise_gate_settings.specs.declared.Setting.{Setting}
 use Rattle.noise_gate_settings.specs.declared.Setting.TheVariants.{Threshold, Ratio, Attack, Release, Hold}
-use Rattle.silence.proofs.Hold.{rate-most, each-rate-most}
+use Rattle.silence.proofs.Hold.{hold-samples-most}
 
 abbrev pub F32 : Float → Type 0
 F32 x = T (fits binary32 x)
@@ -80,6 +81,12 @@ smoothing c f t =
     let l : T (lt c one) = and_r (le nought c) (lt c one) t in
     record { inside = record { fit = f; above = and_l (le nought c) (lt c one) t; below = lt→le c one l }; less = l }
 
+positive-above : (x : Float) → T (positive x) → T (le nought x)
+positive-above nan p = absurd p
+positive-above (inf s) p = absurd p
+positive-above (fin false m e) p = zero-le-absolute m e
+positive-above (fin true m e) p = absurd p
+
 module _ (s : Settings) (a : Settable s) where
   pub attack-number : Smoothing s.attack.number
   unfolding allowed worked
@@ -102,14 +109,22 @@ module _ (s : Settings) (a : Settable s) where
   pub ratio-below : T (le s.ratio (f32 100 1))
   ratio-below = and_r (le one s.ratio) (le s.ratio (f32 100 1)) ratio-range
 
-  pub hold-in : In binary32 (f32 longest_hold 1) s.hold
+  hold-in : In binary32 (f32 longest_hold 1) s.hold
   unfolding allowed in_its_range worked
   hold-in =
       let t : T (in_range nought (f32 longest_hold 1) s.hold) = and_l (in_range nought (f32 longest_hold 1) s.hold) true a.hold.0 in
       record { fit = only s.hold a.hold.1; above = and_l (le nought s.hold) (le s.hold (f32 longest_hold 1)) t; below = and_r (le nought s.hold) (le s.hold (f32 longest_hold 1)) t }
 
+  rate-in : In binary32 (f32 highest_rate 1) s.rate
+  unfolding is_rate
+  rate-in =
+      let t : T (in_range (f32 lowest_rate 1) (f32 highest_rate 1) s.rate) = and_r (whole binary32 s.rate) (in_range (f32 lowest_rate 1) (f32 highest_rate 1) s.rate) a.rate.0 in
+      let l = and_l (le (f32 lowest_rate 1) s.rate) (le s.rate (f32 highest_rate 1)) t in
+      let h = and_r (le (f32 lowest_rate 1) s.rate) (le s.rate (f32 highest_rate 1)) t in
+      record { fit = a.rate.1; above = positive-above s.rate (between (f32 lowest_rate 1) s.rate (f32 highest_rate 1) (unfold f32 in tt) (unfold f32 in tt) l h); below = h }
+
   pub hold-most : hold_samples s ≤ longest_count
-  hold-most = omega (arith, each-rate-most s a.rate.0 hold-in, rate-most s.rate a.rate.0)
+  hold-most = hold-samples-most s hold-in rate-in
 
 -- ---- the registers
 pub record Bounded (m : Registers) : Type 0 where
@@ -153,7 +168,7 @@ pub accepts : (g : Gate) → Settable g.settings → Bounded g.registers → T (
 unfolding acceptable
 accepts g a b = and_i (settable g.settings) (in_bounds g.registers) (settable-is g.settings a) (bounded-is g.registers b)
 
--- H is at most 384,000 in every gate that 9 accepts
+-- H is at most 96,000 in every gate that 9 accepts
 pub accepted-hold : (g : Gate) → T (acceptable g) → SettingsF32 g.settings → hold_samples g.settings ≤ longest_count
 unfolding acceptable
 accepted-hold g t f = hold-most g.settings (is-settable g.settings (and_l (settable g.settings) (in_bounds g.registers) t) f)

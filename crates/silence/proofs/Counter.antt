@@ -32,7 +32,7 @@ or_r : (a b : Bool) → T b → T (a || b)
 or_r true b t = tt
 or_r false b t = t
 
-pub no : (b : Bool) → ¬ T b → b ≡ false
+no : (b : Bool) → ¬ T b → b ≡ false
 no true f = absurd (f tt)
 no false f = refl
 

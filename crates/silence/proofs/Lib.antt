@@ -1,4 +1,4 @@
--- Demand 3, proved: the hold in samples, what 9 accepts, one sample, its counter against its history, what calls keep and count; then the whole. And W10's count, and W12's limits.
+-- Demand 3, proved: the hold in samples, what 9 accepts, one sample, its counter against its history, what calls keep and count; then the whole. And W10's count.
 pub mod Hold
 pub mod Accepted
 pub mod OneSample
@@ -8,4 +8,3 @@ pub mod Count
 pub mod Silence
 pub mod Quiet
 pub mod Unheard
-pub mod Limits

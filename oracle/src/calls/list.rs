@@ -6,14 +6,15 @@ use crate::{
     random::Random,
     signals,
 };
+use std::marker::PhantomData;
+
 /// A list that grows.
-pub struct List<'a, S: Listed> {
+pub struct List<'a, S> {
     pub bytes: Vec<u8>,
     pub random: &'a mut Random,
-    /// What its numbers lie around.
-    pub longest: S::Longest,
     /// How many samples its done blocks have.
     samples: u64,
+    stage: PhantomData<S>,
 }
 
 /// The stored list: every refusal, every length, the borders; a made state as it is; then sessions; a
@@ -39,12 +40,12 @@ pub fn stored<S: Drawn>() -> Vec<u8> {
 }
 
 impl<'a, S: Listed> List<'a, S> {
-    pub fn new(random: &'a mut Random) -> Self {
+    pub const fn new(random: &'a mut Random) -> Self {
         Self {
             bytes: Vec::new(),
             random,
-            longest: S::Longest::default(),
             samples: 0,
+            stage: PhantomData,
         }
     }
 

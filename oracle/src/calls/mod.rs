@@ -11,6 +11,7 @@ pub mod number;
 mod session;
 
 use crate::{
+    exact::{CUT, EXACT},
     random::Random,
     replay::{Counts, Replay, answered},
 };
@@ -124,15 +125,7 @@ pub trait Rust<S> {
 
 /// How a stage's lists are made and read, and how its answers are written.
 pub trait Listed: Rules {
-    /// The longest times that a stage allows, today's by default. The gate's alone had others.
-    type Longest: Copy + Default;
-
     fn stored() -> Vec<u8>;
-
-    /// What every comparison begins with, where the stored list has no room for it.
-    fn always() -> Option<Vec<u8>> {
-        None
-    }
 
     /// A state carried through calls drawn at random.
     fn session(list: &mut List<Self>);
@@ -145,16 +138,9 @@ pub trait Listed: Rules {
 
     /// An answer's bytes; the state is the one after the call.
     fn answer(&self, told: &Told) -> Vec<u8>;
-
-    /// What else a call is counted as, beside its own kind and its answer's; the state is the one after it.
-    fn kinds(&self, _call: &Call, _told: &Told) -> Vec<&'static str> {
-        Vec::new()
-    }
 }
 
 impl<S: Drawn> Listed for S {
-    type Longest = ();
-
     fn stored() -> Vec<u8> {
         list::stored::<S>()
     }
@@ -236,10 +222,6 @@ impl<S: Listed> Replay for Called<S> {
         S::stored()
     }
 
-    fn always(&self) -> Option<Vec<u8>> {
-        S::always()
-    }
-
     fn generated(&self, random: &mut Random, cases: u64) -> Vec<u8> {
         let mut list = List::<S>::new(random);
         list.sessions(cases);
@@ -266,8 +248,13 @@ impl<S: Listed> Replay for Called<S> {
             if let (Call::Block(input, _) | Call::Record(input, ..), 0) = (&call, told.number) {
                 *counts.entry("samples of done blocks").or_default() += input.len() as u64;
             }
-            for kind in held.state.kinds(&call, &told) {
-                *counts.entry(kind).or_default() += 1;
+            if told.quiet == u32::MAX {
+                *counts.entry("quiet counts at the top").or_default() += 1;
+            }
+            match told.hold.word {
+                EXACT => *counts.entry("holds set, exact").or_default() += 1,
+                CUT => *counts.entry("holds set, cut").or_default() += 1,
+                _ => {}
             }
         }
         counts

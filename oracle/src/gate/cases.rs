@@ -1,8 +1,7 @@
 //! Lists of calls: the one that is stored, and new ones.
 use super::{
-    call,
-    numbers::{self, FORMER, Longest},
-    rules::Gate,
+    call, numbers,
+    rules::{Gate, LONGEST_COUNT},
     setting::{NAMES, Setting},
 };
 use crate::{
@@ -21,12 +20,10 @@ pub(super) const FORMER_HOLD: f32 = 50.0;
 
 /// The stored list: every refusal, every length, the borders; a made gate with nothing set but its hold; then
 /// sessions; a call of each number that no call has; the same again of blocks with a record; how long a made gate
-/// holds, and a kept one; what a set hold tells; how long it has been quiet; all these by the former limits; then holds
-/// above 500 ms; and a call that ends too soon.
+/// holds, and a kept one; what a set hold tells; how long it has been quiet; and a call that ends too soon.
 pub fn stored() -> Vec<u8> {
     let mut random = Random::new(4);
     let mut list = List::<Gate>::new(&mut random);
-    list.longest = FORMER;
     list.on_the_made_state();
     list.makings();
     list.limits();
@@ -43,8 +40,6 @@ pub fn stored() -> Vec<u8> {
     list.holds();
     list.words();
     list.quiet();
-    list.longest = Longest::default();
-    list.long_holds();
     list.ends_too_soon();
     list.bytes
 }
@@ -125,16 +120,6 @@ impl List<'_, Gate> {
         self.bytes.extend(call::bytes(&hold, false));
     }
 
-    /// Behind a hold that was refused when the list had other limits, and is done today, the one before it is set
-    /// again: so the answers behind it stay what they were. Nothing is drawn for that.
-    pub(super) fn set_back(&mut self, setting: Setting, hold: f32) {
-        let was_refused = matches!(setting, Setting::Hold(ms) if ms > self.longest.hold);
-        if was_refused && setting.is_in_range() {
-            let hold = call::typed(Setting::Hold(hold));
-            self.bytes.extend(call::bytes(&hold, false));
-        }
-    }
-
     /// A gate made, and its five settings set.
     pub(super) fn made(&mut self, gate: &Gate) {
         self.made_as_formerly(gate);
@@ -189,9 +174,8 @@ impl List<'_, Gate> {
     /// Each setting at its limits and just outside them, and each worked number so.
     fn limits(&mut self) {
         self.made(&QUICK);
-        for (setting, _) in numbers::at_the_limits(self.longest) {
+        for (setting, _) in numbers::at_the_limits() {
             self.set(setting, setting.worked().unwrap_or(0.0));
-            self.set_back(setting, below(self.longest.hold));
             self.add(Call::Read(setting.name().into()));
             self.add(Call::Block(vec![0.5, -0.5, 0.0, 0.125], 4));
         }
@@ -279,17 +263,16 @@ impl List<'_, Gate> {
 
     /// A kept state spoilt in each way that 9 has, with every call on it.
     fn kept_states_refused(&mut self) {
-        let kept = Gate {
+        for gate in numbers::spoilt(&Gate {
             level: 0.5,
             state: 0.5,
             counter: 3,
             ..QUICK
-        };
-        for gate in numbers::spoilt(&kept, self.longest) {
+        }) {
             self.refused_by_9(gate);
         }
         self.add(call::load(Gate {
-            counter: self.longest.count,
+            counter: LONGEST_COUNT,
             level: LARGEST_SAMPLE,
             state: 1.0,
             ..QUICK

@@ -55,7 +55,7 @@ impl List<'_, Gate> {
 
     /// Silence, one loud sample and silence again: so many samples with the loud one, the last of them in a block of its
     /// own; and one more.
-    pub(super) fn one_loud(&mut self, samples: usize, block: fn(&mut Self, Vec<f32>)) {
+    fn one_loud(&mut self, samples: usize, block: fn(&mut Self, Vec<f32>)) {
         let mut signal = vec![0.0; samples - 1];
         signal[0] = LOUD;
         block(self, vec![0.0; 3]);

@@ -9,7 +9,7 @@ use crate::{
 use std::collections::BTreeMap;
 
 /// The bytes of an answer without a block's output and aims, and where in them the state begins.
-pub(super) const ANSWER: usize = 104;
+const ANSWER: usize = 104;
 pub(super) const STATE: usize = 40;
 
 /// The refusals that hold of a record, whatever their order, with 7 told apart by the buffer.

@@ -310,7 +310,7 @@ fn refusing(asked: &Asked, count: u32, here: bool) -> Figures {
     but(asked, count, here && looks, (0, count))
 }
 
-const BLOCKS: [Wrong; 38] = [
+const BLOCKS: [Wrong; 37] = [
     ("one more after a loud sample", |a, n| {
         block(a, n, |n, heard| match heard.iter().rev().position(loud) {
             Some(behind) => behind as u32 + 1,
@@ -402,9 +402,6 @@ const BLOCKS: [Wrong; 38] = [
     ("stops at 96,000", |a, n| {
         silent(a, n, |n, samples| n.saturating_add(samples).min(96_000))
     }),
-    ("stops at 384,000", |a, n| {
-        silent(a, n, |n, samples| n.saturating_add(samples).min(384_000))
-    }),
     ("in single floats", |a, n| {
         silent(a, n, |n, samples| (n as f32 + samples as f32) as u32)
     }),
@@ -451,7 +448,7 @@ const BLOCKS: [Wrong; 38] = [
     }),
 ];
 
-const REFUSALS: [Wrong; 18] = [
+const REFUSALS: [Wrong; 17] = [
     ("a refused block is counted", |a, n| {
         but(a, n, a.is_refused_block(), (0, grown(a, n)))
     }),
@@ -500,9 +497,6 @@ const REFUSALS: [Wrong; 18] = [
     }),
     ("9 refuses counts above 96,000", |a, n| {
         refusing(a, n, n > 96_000)
-    }),
-    ("9 refuses counts above 384,000", |a, n| {
-        refusing(a, n, n > 384_000)
     }),
 ];
 

@@ -2,7 +2,6 @@
 use super::{
     NoiseGate, cases,
     needs::{STATE, answered},
-    numbers::FORMER,
     rules::Gate,
     setting::NAMES,
     words::BY_HAND,
@@ -65,8 +64,8 @@ fn asked(list: &[u8]) -> Vec<Asked> {
     all.map(asked).collect()
 }
 
-/// The answers to a part of the stored list, or to another such list.
-fn part(of: impl Fn(&mut List<Gate>)) -> Vec<Asked> {
+/// The answers to a part of the stored list.
+fn part(of: fn(&mut List<Gate>)) -> Vec<Asked> {
     let mut random = Random::new(1);
     let mut list = List::<Gate>::new(&mut random);
     of(&mut list);
@@ -114,28 +113,19 @@ fn words_by_hand() {
     }
 }
 
-/// How many of the whole milliseconds up to this one are exact and how many cut at a rate. None loses a sample.
-fn words_of_milliseconds(rate: u64, last: u32) -> [usize; 2] {
-    let all = part(|list| list.milliseconds(rate as f32, 0..=last));
-    let told: Vec<_> = all[1..].iter().map(Asked::told).collect();
-    for (ms, (_, samples)) in (0..).zip(&told) {
-        assert_eq!(*samples, ms * rate / 1_000, "{ms} ms at {rate} Hz");
-    }
-    [EXACT, CUT].map(|word| told.iter().filter(|told| told.0 == word).count())
-}
-
-/// The first row is the stored list's.
 #[test]
-fn words_of_the_whole_milliseconds() {
-    assert_eq!(words_of_milliseconds(48_000, 500), [239, 262]);
-    for (rate, cut) in [
-        (8_000, 1_162),
-        (44_100, 1_903),
-        (48_000, 1_068),
-        (96_000, 1_068),
-        (192_000, 1_068),
-    ] {
-        assert_eq!(words_of_milliseconds(rate, 2_000), [2_001 - cut, cut]);
+fn of_the_whole_milliseconds_262_are_cut_and_none_loses_a_sample() {
+    let told: Vec<_> = part(|list| list.every_millisecond())[1..]
+        .iter()
+        .map(Asked::told)
+        .collect();
+    assert_eq!(told.len(), 501);
+    let cut = told.iter().filter(|&&(word, _)| word == CUT);
+    assert_eq!(cut.count(), 262);
+    let exact = told.iter().filter(|&&(word, _)| word == EXACT);
+    assert_eq!(exact.count(), 239);
+    for (ms, (_, samples)) in (0..).zip(told) {
+        assert_eq!(samples, ms * 48_000 / 1_000, "{ms} ms");
     }
 }
 
@@ -201,12 +191,9 @@ fn each_list_tells_other_ways_apart() {
         for (name, wrong) in WRONG {
             let done = all.iter().filter(|asked| asked.told().0 != 0);
             let differ = done.filter(|asked| wrong(asked.hold(), asked.rate()) != asked.told());
-            let holds: Vec<_> = differ.map(Asked::hold).collect();
-            let long = holds.iter().filter(|&&hold| hold > FORMER.hold).count();
-            println!("{list}, {name}: {}, long: {long}", holds.len());
-            assert!(!holds.is_empty(), "{list} doesn't tell apart: {name}");
-            let can_be_long = name != "no word where nothing is held";
-            assert!(long > 0 || !can_be_long, "{list}, long: {name}");
+            let count = differ.count();
+            println!("{list}, {name}: {count}");
+            assert!(count > 0, "{list} doesn't tell apart: {name}");
         }
     }
 }

@@ -6,8 +6,8 @@ use super::{
 use crate::{
     limits::{LARGEST_SAMPLE, LOWEST_FACTOR},
     numbers::{
-        NANS, RATES_REFUSED, SMALLEST, SMOOTHING, SMOOTHING_REFUSED, above, below, ends, level,
-        rate, smoothing, threshold_factor, within,
+        NANS, RATES_REFUSED, SMALLEST, SMOOTHING, SMOOTHING_REFUSED, ends, level, rate, smoothing,
+        threshold_factor, within,
     },
     random::Random,
 };
@@ -24,32 +24,10 @@ pub const HOLDS: [(f32, f32); 5] = [
 /// The state that a step halfway to 1 takes to 0.999, from where the gain is 1.
 pub const HALF_WAY_OPEN: f32 = 2.0 * 0.999 - 1.0;
 
-/// The longest hold, in milliseconds, and the counter's bound, which a list's numbers lie around.
-#[derive(Clone, Copy)]
-pub struct Longest {
-    pub hold: f32,
-    pub count: u64,
-}
-
-/// Those that most of the stored list was made by.
-pub const FORMER: Longest = Longest {
-    hold: 500.0,
-    count: 96_000,
-};
-
-impl Default for Longest {
-    fn default() -> Self {
-        Self {
-            hold: LONGEST_HOLD,
-            count: LONGEST_COUNT,
-        }
-    }
-}
-
 /// Mostly so short that it is a few samples; then any hold, the longest among them.
-fn hold(longest: Longest, random: &mut Random) -> f32 {
+fn hold(random: &mut Random) -> f32 {
     match random.below(4) {
-        0 => within(0.0, longest.hold, random),
+        0 => within(0.0, LONGEST_HOLD, random),
         1 => random.pick(&[0.0, 1.0 / 16.0, 0.125, 0.041_67, SMALLEST]),
         _ => random.below(1 << 12) as f32 / (1 << 10) as f32,
     }
@@ -71,59 +49,13 @@ fn whole_hold(samples: u64, rate: f32, random: &mut Random) -> f32 {
 
 /// A hold that is a whole number of samples or nearly one, or so of halves of milliseconds; or any.
 pub fn counted_hold(rate: f32, random: &mut Random) -> f32 {
-    let most = 2 * rate as u64;
+    let most = rate as u64 / 2;
     match random.below(8) {
-        0 => hold(Longest::default(), random),
-        1 => random.below(4_001) as f32 / 2.0,
+        0 => hold(random),
+        1 => random.below(1_001) as f32 / 2.0,
         2 | 3 => whole_hold(random.below(40), rate, random),
-        4 => whole_hold(1 << random.below(19), rate, random),
+        4 => whole_hold(1 << random.below(17), rate, random),
         _ => whole_hold(random.below(most + 1), rate, random),
-    }
-}
-
-/// A hold from 500 ms on: a whole number of samples or nearly one, or of milliseconds; at the ends; or any.
-pub fn long_hold(rate: f32, random: &mut Random) -> f32 {
-    let ends = [
-        FORMER.hold,
-        above(FORMER.hold),
-        below(LONGEST_HOLD),
-        LONGEST_HOLD,
-    ];
-    let second = rate as u64;
-    match random.below(8) {
-        0 => random.pick(&ends),
-        1 => random.between(501, 2_000) as f32,
-        2 | 3 => within(FORMER.hold, LONGEST_HOLD, random),
-        _ => {
-            let samples = second / 2 + 1 + random.below(second * 3 / 2);
-            whole_hold(samples, rate, random)
-        }
-    }
-}
-
-/// A counter that 9 accepts: few, just above one whose lowest bits are 0 or above the former bound, near the bound, or any.
-pub fn counter(random: &mut Random) -> u64 {
-    let few = random.below(16);
-    match random.below(8) {
-        0 => few,
-        1 => (1 << random.between(16, 18)) + few,
-        2 => random.pick(&[FORMER.count, 3 << 16, 5 << 16]) + few,
-        3 | 4 => LONGEST_COUNT - few / 4,
-        _ => random.below(LONGEST_COUNT + 1),
-    }
-}
-
-/// A counter that 9 refuses: just above the bound, a power of two, or one that is small in fewer bits.
-pub fn refused_counter(random: &mut Random) -> u64 {
-    let few = random.below(5);
-    let small = random.below(LONGEST_COUNT + 1);
-    match random.below(8) {
-        0 | 1 => LONGEST_COUNT + 1 + few,
-        2 => LONGEST_COUNT + 1 + small,
-        3 => (1 << random.between(19, 63)) + few,
-        4 => u64::MAX - few,
-        5 => (1 << 63) + small,
-        _ => (1 << random.between(32, 63)) + small,
     }
 }
 
@@ -138,7 +70,7 @@ pub fn quiet(random: &mut Random) -> u32 {
 }
 
 /// A gate that 9 accepts, in the middle of its work.
-pub fn acceptable(longest: Longest, random: &mut Random) -> Gate {
+pub fn acceptable(random: &mut Random) -> Gate {
     Gate {
         rate: rate(random),
         threshold: within(-80.0, 0.0, random),
@@ -148,12 +80,12 @@ pub fn acceptable(longest: Longest, random: &mut Random) -> Gate {
         opening: smoothing(random),
         release: within(1.0, 1_000.0, random),
         closing: smoothing(random),
-        hold: hold(longest, random),
+        hold: hold(random),
         rising: smoothing(random),
         falling: smoothing(random),
         level: level(random),
         state: within(0.0, 1.0, random) * random.pick(&[1.0, 1e-38, 1e-44]),
-        counter: random.pick(&[0, 1, 2, 100, longest.count]),
+        counter: random.pick(&[0, 1, 2, 100, LONGEST_COUNT]),
         quiet: 0,
     }
 }
@@ -169,7 +101,7 @@ fn smoothing_ends() -> impl Iterator<Item = (f32, bool)> {
 type Taken = (Setting, bool);
 
 /// Each setting with its value at the limits, and with its worked number there; whether it is accepted.
-pub fn at_the_limits(longest: Longest) -> Vec<Taken> {
+pub fn at_the_limits() -> Vec<Taken> {
     let mut all: Vec<Taken> = Vec::new();
     let mut add = |numbers: &[(f32, bool)], setting: fn(f32) -> Setting| {
         all.extend(numbers.iter().map(|&(x, accepted)| (setting(x), accepted)));
@@ -183,7 +115,7 @@ pub fn at_the_limits(longest: Longest) -> Vec<Taken> {
     add(&smoothing, |x| Setting::Attack(1.0, x));
     add(&ends(1.0, 1_000.0), |x| Setting::Release(x, 0.5));
     add(&smoothing, |x| Setting::Release(10.0, x));
-    add(&ends(0.0, longest.hold), Setting::Hold);
+    add(&ends(0.0, LONGEST_HOLD), Setting::Hold);
     add(&[(-0.0, true)], Setting::Hold);
     // The value is looked at before the worked number.
     add(&[(f32::NAN, false)], |x| Setting::Threshold(x, x));
@@ -192,17 +124,17 @@ pub fn at_the_limits(longest: Longest) -> Vec<Taken> {
     all
 }
 
-pub fn refused_setting(longest: Longest, random: &mut Random) -> Setting {
-    let refused = at_the_limits(longest)
+pub fn refused_setting(random: &mut Random) -> Setting {
+    let refused = at_the_limits()
         .into_iter()
         .filter(|&(_, accepted)| !accepted);
     random.pick(&refused.map(|(setting, _)| setting).collect::<Vec<_>>())
 }
 
 /// The gate spoilt in one number, in every way that 9 has.
-pub fn spoilt(gate: &Gate, longest: Longest) -> Vec<Gate> {
+pub fn spoilt(gate: &Gate) -> Vec<Gate> {
     let mut all: Vec<Gate> = Vec::new();
-    let refused = at_the_limits(longest)
+    let refused = at_the_limits()
         .into_iter()
         .filter(|&(_, accepted)| !accepted);
     all.extend(refused.map(|(setting, _)| setting.taken(*gate)));
@@ -223,7 +155,7 @@ pub fn spoilt(gate: &Gate, longest: Longest) -> Vec<Gate> {
     for (x, accepted) in ends(0.0, 1.0).into_iter().chain([(NANS[1], false)]) {
         all.extend((!accepted).then_some(Gate { state: x, ..*gate }));
     }
-    for counter in [longest.count + 1, 1 << 32, u64::MAX] {
+    for counter in [LONGEST_COUNT + 1, 1 << 32, u64::MAX] {
         all.push(Gate { counter, ..*gate });
     }
     all.push(Gate::default());

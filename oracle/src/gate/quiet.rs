@@ -105,7 +105,7 @@ impl List<'_, Gate> {
         }
     }
 
-    pub(super) fn call_as(&mut self, form: Form, call: &Call) {
+    fn call_as(&mut self, form: Form, call: &Call) {
         let in_place = matches!(form, Form::InPlace);
         self.bytes.extend(call::bytes(call, in_place));
     }
@@ -120,7 +120,7 @@ impl List<'_, Gate> {
         self.call_as(form, &call);
     }
 
-    pub(super) fn block_as(&mut self, form: Form, samples: &[f32]) {
+    fn block_as(&mut self, form: Form, samples: &[f32]) {
         self.block_into(form, samples, samples.len());
     }
 
@@ -298,11 +298,10 @@ impl List<'_, Gate> {
     /// Each setting, done and refused, in each form; each name that is none. The blocks behind them count on.
     fn settings_in_the_quiet(&mut self) {
         self.add(call::hand_back(SEVEN));
-        let at_the_limits = numbers::at_the_limits(self.longest).into_iter();
+        let at_the_limits = numbers::at_the_limits().into_iter();
         let all = at_the_limits.map(|(setting, _)| setting);
         for (setting, form) in all.chain(settings(&KEPT)).zip(FORMS.into_iter().cycle()) {
             self.set_in_each_form(setting);
-            self.set_back(setting, below(self.longest.hold));
             self.block_as(form, &[0.0]);
         }
         for (name, form) in OTHERS.into_iter().zip(FORMS.into_iter().cycle()) {
@@ -313,7 +312,7 @@ impl List<'_, Gate> {
 
     /// A gate spoilt in each way that 9 has: every call leaves its count, and no block tells it. A load of it has none.
     fn quiet_of_refused_states(&mut self) {
-        for (gate, form) in numbers::spoilt(&SEVEN, self.longest)
+        for (gate, form) in numbers::spoilt(&SEVEN)
             .into_iter()
             .zip(FORMS.into_iter().cycle())
         {
@@ -346,10 +345,10 @@ impl List<'_, Gate> {
     }
 
     /// A gate with a count, that 9 accepts; of half of them the level is the sample's size.
-    pub(super) fn counting(&mut self) -> Gate {
+    fn counting(&mut self) -> Gate {
         let gate = Gate {
             quiet: numbers::quiet(self.random),
-            ..numbers::acceptable(self.longest, self.random)
+            ..numbers::acceptable(self.random)
         };
         if self.random.coin() {
             return gate;
@@ -366,7 +365,7 @@ impl List<'_, Gate> {
     pub(super) fn quiet_session(&mut self) {
         let mut gate = self.counting();
         if self.random.below(4) == 0 {
-            let spoilt = self.random.pick(&numbers::spoilt(&gate, self.longest));
+            let spoilt = self.random.pick(&numbers::spoilt(&gate));
             self.add(call::hand_back(spoilt));
             self.quiet_block(&gate);
             self.add(Call::Reset);
@@ -400,7 +399,7 @@ impl List<'_, Gate> {
     }
 
     /// Silence, or silence with one loud sample, or any signal.
-    pub(super) fn quiet_block(&mut self, gate: &Gate) {
+    fn quiet_block(&mut self, gate: &Gate) {
         let length = self.random.below(24) as usize;
         let samples = match self.random.below(8) {
             0 => signals::drawn(gate.factor, length, self.random),

@@ -148,7 +148,7 @@ impl List<'_, Gate> {
 
     /// A kept state spoilt in each way that 9 has.
     fn records_of_refused_states(&mut self) {
-        for gate in numbers::spoilt(&AT_WORK, self.longest) {
+        for gate in numbers::spoilt(&AT_WORK) {
             self.add(call::load(gate));
             self.refused_record(vec![0.5, 0.0, 0.5], 3, 3);
             let places = self.random.below(3) as usize;
@@ -219,7 +219,7 @@ impl List<'_, Gate> {
     /// The same samples on the same state as a block, then with a record; and where a signal is cut, the aims go on.
     fn records_again(&mut self) {
         for _ in 0..20 {
-            let gate = numbers::acceptable(self.longest, self.random);
+            let gate = numbers::acceptable(self.random);
             let samples = signals::bursts(gate.factor, 60, self.random);
             self.add(call::load(gate));
             self.block(samples.clone());

@@ -16,9 +16,9 @@ use crate::{
 /// The hold of a made gate, in milliseconds: document 02's W2.
 const MADE_HOLD: f32 = 100.0;
 
-/// The longest hold, in milliseconds; the counter's bound: document 02's W12. Document 01 has 500 and 96,000.
-pub const LONGEST_HOLD: f32 = 2_000.0;
-pub const LONGEST_COUNT: u64 = 384_000;
+/// The longest hold, in milliseconds; the counter's bound.
+pub const LONGEST_HOLD: f32 = 500.0;
+pub const LONGEST_COUNT: u64 = 96_000;
 
 /// What a host sets and what a sample moves, in the order of the answers' bytes.
 #[derive(Clone, Copy, Debug, Default)]

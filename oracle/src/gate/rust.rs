@@ -1,5 +1,5 @@
 //! The Rust's gate with worked numbers lent, and beside it the quiet count, which it doesn't have: by what it takes as loud.
-use super::rules::{Gate, LONGEST_HOLD};
+use super::rules::Gate;
 use crate::{
     bits::bits32,
     calls::{self, HoldTold, Seen},
@@ -9,9 +9,6 @@ use rustortion_core::amp::stages::{
     Stage,
     noise_gate::{GateRegisters, NoiseGateStage},
 };
-
-/// The longest hold that the Rust's setting takes. Its constructor takes any.
-const LONGEST_SET: f32 = 500.0;
 
 pub struct Rust {
     stage: NoiseGateStage,
@@ -99,11 +96,6 @@ impl calls::Rust<Gate> for Rust {
             word: if is_exact { EXACT } else { CUT },
             samples: samples as u64,
         }
-    }
-
-    /// The Rust refuses a hold above 500 ms; it is made anew with it.
-    fn takes_otherwise(name: &[u8], value: f32) -> bool {
-        name == b"hold" && value > LONGEST_SET && value <= LONGEST_HOLD
     }
 
     /// The Rust's threshold is a logarithm, document 01's the value last set.

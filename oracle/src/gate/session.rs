@@ -18,11 +18,11 @@ impl List<'_, Gate> {
     /// A gate made and set, or handed back, and blocks on it between calls that change it or are
     /// refused.
     pub(super) fn session(&mut self) {
-        let mut gate = numbers::acceptable(self.longest, self.random);
+        let mut gate = numbers::acceptable(self.random);
         match self.random.below(16) {
             0 => self.refused_making(),
             1 => {
-                let spoilt = self.random.pick(&numbers::spoilt(&gate, self.longest));
+                let spoilt = self.random.pick(&numbers::spoilt(&gate));
                 self.refused_by_9(spoilt);
             }
             _ => {}
@@ -59,7 +59,7 @@ impl List<'_, Gate> {
 
     /// A setting as another gate has it; `gate` with it taken.
     pub(super) fn changed(&mut self, gate: Gate) -> Gate {
-        let other = numbers::acceptable(self.longest, self.random);
+        let other = numbers::acceptable(self.random);
         let setting = self.random.pick(&settings(&other));
         self.set(setting, setting.worked().unwrap_or(f32::INFINITY));
         self.add(Call::Read(setting.name().into()));
@@ -78,9 +78,8 @@ impl List<'_, Gate> {
                 self.add(call::named(name, 1.0, 0.5));
             }
             10..30 => {
-                let setting = numbers::refused_setting(self.longest, self.random);
+                let setting = numbers::refused_setting(self.random);
                 self.set(setting, setting.worked().unwrap_or(0.0));
-                self.set_back(setting, gate.hold);
             }
             30..40 => {
                 let mut samples = signals::drawn(gate.factor, 20, self.random);
@@ -111,9 +110,9 @@ impl List<'_, Gate> {
 
     /// A gate made and set, or handed back; records and plain blocks on it, between calls that change it or are refused.
     pub(super) fn recorded_session(&mut self) {
-        let mut gate = numbers::acceptable(self.longest, self.random);
+        let mut gate = numbers::acceptable(self.random);
         if self.random.below(16) == 0 {
-            let spoilt = self.random.pick(&numbers::spoilt(&gate, self.longest));
+            let spoilt = self.random.pick(&numbers::spoilt(&gate));
             self.add(call::load(spoilt));
             self.drawn_refused_record(&gate);
         }

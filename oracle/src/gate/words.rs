@@ -3,8 +3,8 @@ use super::{
     call,
     cases::settings,
     holds::{HEARD, KEPT, LOUD},
-    numbers::{self, FORMER},
-    rules::Gate,
+    numbers,
+    rules::{Gate, LONGEST_HOLD},
     setting::Setting,
 };
 use crate::{
@@ -23,7 +23,7 @@ enum Form {
 const FORMS: [Form; 3] = [Form::Typed, Form::Named, Form::InPlace];
 
 /// Holds at 48,000 Hz. 1/16 ms, 50 ms; nothing; what comes to nothing; 1 and 2 samples and the 7 of which one is lost; the
-/// longest when these were made, and what comes to as many samples.
+/// longest, and what comes to as many samples.
 pub(super) const BY_HAND: [f32; 13] = [
     1.0 / 16.0,
     50.0,
@@ -36,8 +36,8 @@ pub(super) const BY_HAND: [f32; 13] = [
     100.0,
     below(50.0),
     above(50.0),
-    FORMER.hold,
-    below(FORMER.hold),
+    LONGEST_HOLD,
+    below(LONGEST_HOLD),
 ];
 
 /// Rates beside 48,000 Hz: usual ones, the lowest and the highest, and odd ones.
@@ -49,18 +49,16 @@ const RATES: [f32; 9] = [
 const TIMES: [f32; 9] = [0.0, -0.0, 1.0 / 16.0, 0.1, 1.0, 10.0, 50.0, 250.0, 500.0];
 const COUNTS: [f32; 5] = [1.0, 3.0, 7.0, 100.0, 3_000.0];
 
-const fn refused(longest: f32) -> [f32; 8] {
-    [
-        above(longest),
-        -SMALLEST,
-        -1.0,
-        f32::INFINITY,
-        f32::NEG_INFINITY,
-        NANS[0],
-        NANS[1],
-        NANS[2],
-    ]
-}
+const REFUSED: [f32; 8] = [
+    above(LONGEST_HOLD),
+    -SMALLEST,
+    -1.0,
+    f32::INFINITY,
+    f32::NEG_INFINITY,
+    NANS[0],
+    NANS[1],
+    NANS[2],
+];
 
 const NO_NAMES: [&[u8]; 6] = [b"", b"Hold", b"hold ", b"hol", b"hold\0", b"holdhold"];
 
@@ -112,13 +110,9 @@ impl List<'_, Gate> {
         }
     }
 
-    fn every_millisecond(&mut self) {
-        self.milliseconds(48_000.0, 0..=500);
-    }
-
-    pub(super) fn milliseconds(&mut self, rate: f32, all: impl IntoIterator<Item = u32>) {
-        self.add(call::make(rate, 0.0, 0.0));
-        self.set_in_turn(all.into_iter().map(|ms| ms as f32));
+    pub(super) fn every_millisecond(&mut self) {
+        self.add(call::make(48_000.0, 0.0, 0.0));
+        self.set_in_turn((0..=500).map(|ms| ms as f32));
     }
 
     fn words_at_rates(&mut self) {
@@ -150,9 +144,8 @@ impl List<'_, Gate> {
 
     /// By 3, by 4, by 1 and by 9.
     fn refused_without_a_word(&mut self) {
-        for hold in refused(self.longest.hold) {
+        for hold in REFUSED {
             self.set_in_each_form(Setting::Hold(hold));
-            self.set_back(Setting::Hold(hold), KEPT.hold);
         }
         self.set_in_each_form(Setting::Attack(1.0, SMOOTHING_REFUSED[0]));
         for name in NO_NAMES {
@@ -201,7 +194,7 @@ impl List<'_, Gate> {
     }
 
     /// In any form.
-    pub(super) fn set_hold(&mut self, hold: f32) {
+    fn set_hold(&mut self, hold: f32) {
         let form = self.random.pick(&FORMS);
         self.set_as(form, Setting::Hold(hold));
     }
@@ -209,9 +202,9 @@ impl List<'_, Gate> {
     /// A gate whose hold is set again and again, mostly nearly to a whole number of samples, between calls that tell
     /// nothing of it; now and then a loud sample counts it. Seldom one that 9 refuses stands before it.
     pub(super) fn hold_session(&mut self) {
-        let gate = numbers::acceptable(self.longest, self.random);
+        let gate = numbers::acceptable(self.random);
         if self.random.below(8) == 0 {
-            let spoilt = self.random.pick(&numbers::spoilt(&gate, self.longest));
+            let spoilt = self.random.pick(&numbers::spoilt(&gate));
             self.add(call::load(spoilt));
             self.set_hold(gate.hold);
         }
@@ -219,7 +212,7 @@ impl List<'_, Gate> {
         for _ in 0..self.random.between(4, 24) {
             match self.random.below(16) {
                 0 => {
-                    let refused = self.random.pick(&refused(self.longest.hold));
+                    let refused = self.random.pick(&REFUSED);
                     self.set_hold(refused);
                 }
                 1 => {
