@@ -94,7 +94,7 @@ pub fn stuck(m: u64, rest: u64) -> u64
 pub fn top(hi: u64, lo: u64) -> bits::Part
     requires hi_nonzero { 0 < hi }
     requires hi_bound { hi < 2 ^ 62 }
-    ensures bound { 2 ^ 62 ≤ result.m }
+    ensures m_least { 2 ^ 62 ≤ result.m }
     ensures m_bound { result.m < 2 ^ 63 }
     ensures sticky { Steps.Sticky result.m (hi * 2 ^ 64 + lo) (2 ^ (64 - result.k)) }
     ensures le_k { 1 ≤ result.k }

@@ -1,5 +1,7 @@
 // a * b + c for `f64` by whole numbers, whatever the operands are: a product of significands and a
 // third one at the left end of 124 digits, added or subtracted, and rounded once.
+#![tactic(auto)]
+
 mod wide;
 
 ghost use Rattle.std.specs.Prelude.{◌≡◌, cond, ◌+◌, ◌-◌, ◌*◌, ◌^◌, ◌≤◌, ◌<◌, max, T};
@@ -140,9 +142,9 @@ fn total(s: bool, t: bool, uh: u64, ul: u64, vh: u64, vl: u64, e: u64) -> f64
 }
 
 fn of_patterns(a: u64, b: u64, c: u64) -> f64
-    requires t { T (Scale.finite (of_bits binary64 a)) }
-    requires t_2 { T (Scale.finite (of_bits binary64 b)) }
-    requires t_3 { T (Scale.finite (of_bits binary64 c)) }
+    requires a_finite { T (Scale.finite (of_bits binary64 a)) }
+    requires b_finite { T (Scale.finite (of_bits binary64 b)) }
+    requires c_finite { T (Scale.finite (of_bits binary64 c)) }
     ensures { result ≡ fma binary64 (of_bits binary64 a) (of_bits binary64 b) (of_bits binary64 c) }
 {
     let x = bits::part_of(a % SIGN, FRACTION);

@@ -35,7 +35,7 @@ pub fn sticky(hi: u64, lo: u64, s: u64) -> Wide
     requires hi_bound { hi < 2 ^ 62 }
     requires lo_bound { lo < 2 ^ 62 }
     ensures lo_value { result.hi * 2 ^ 62 + result.lo ≡ Steps.stick (hi * 2 ^ 62 + lo) s }
-    ensures lo_bound_2 { result.lo < 2 ^ 62 }
+    ensures result_bound { result.lo < 2 ^ 62 }
 {
     if s >= 62 {
         if lo == 0 {
@@ -89,7 +89,7 @@ pub fn less(ah: u64, al: u64, bh: u64, bl: u64) -> bool
 pub fn minus(ah: u64, al: u64, bh: u64, bl: u64) -> Wide
     requires al_bound { al < 2 ^ 62 }
     requires bl_bound { bl < 2 ^ 62 }
-    requires bl_bound_2 { bh * 2 ^ 62 + bl ≤ ah * 2 ^ 62 + al }
+    requires b_le_a { bh * 2 ^ 62 + bl ≤ ah * 2 ^ 62 + al }
     ensures lo_value { result.hi * 2 ^ 62 + result.lo ≡ ah * 2 ^ 62 + al - (bh * 2 ^ 62 + bl) }
     ensures lo_bound { result.lo < 2 ^ 62 }
     ensures hi_le_ah { result.hi ≤ ah }
@@ -113,7 +113,7 @@ fn lifted(hi: u64, lo: u64, e: u64) -> bits::Part
     requires hi_bound { hi < 2 ^ 63 }
     requires lo_bound { lo < 2 ^ 62 }
     requires e_bound { e < 2 ^ 32 }
-    ensures bound { 2 ^ 62 ≤ result.m }
+    ensures m_least { 2 ^ 62 ≤ result.m }
     ensures m_bound { result.m < 2 ^ 63 }
     ensures sticky { Steps.Sticky result.m ((hi * 2 ^ 62 + lo) * 2 ^ e) (2 ^ result.k) }
     ensures k_bound { result.k ≤ e + 62 }
@@ -137,7 +137,7 @@ pub fn top(hi: u64, lo: u64, e: u64) -> bits::Part
     requires lo_bound { lo < 2 ^ 62 }
     requires le_e { 62 ≤ e }
     requires e_bound { e < 2 ^ 32 }
-    ensures bound { 2 ^ 62 ≤ result.m }
+    ensures m_least { 2 ^ 62 ≤ result.m }
     ensures m_bound { result.m < 2 ^ 63 }
     ensures sticky { Steps.Sticky result.m ((hi * 2 ^ 62 + lo) * 2 ^ e) (2 ^ result.k) }
     ensures k_bound { result.k ≤ e + 62 }

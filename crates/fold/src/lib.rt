@@ -1,1 +1,2 @@
 // Definitions and laws of a block; no function.
+#![tactic(auto)]

@@ -1,4 +1,6 @@
 // The nearest square root of an `f32`.
+#![tactic(auto)]
+
 ghost use Rattle.std.specs.Prelude.{◌≡◌, ◌^◌, ◌<◌, ◌≤◌, from_bits};
 ghost use Rattle.std.specs.Float.{binary32};
 ghost use Rattle.root.specs.Root as Root;
@@ -38,7 +40,7 @@ fn guess(b: u32, base: u64) -> u64
 
 // The whole number nearest to the root of n, from any g: q with q - 1/2 < root < q + 1/2.
 fn nearest_root(n: u64, g: u64) -> u64
-    requires bound { 2 ^ 46 ≤ n }
+    requires n_least { 2 ^ 46 ≤ n }
     requires n_bound { n < 2 ^ 48 }
     requires g_bound { g ≤ 2 ^ 25 }
     ensures { NearestWhole n result }

@@ -47,7 +47,7 @@ fn grown(n: u64, e: u64) -> bits::Part
     requires n_nonzero { 0 < n }
     requires n_bound { n < 2 ^ 63 }
     requires le_e { 62 ≤ e }
-    ensures bound { 2 ^ 62 ≤ result.m }
+    ensures m_least { 2 ^ 62 ≤ result.m }
     ensures m_bound { result.m < 2 ^ 63 }
     ensures k_value { result.m * 2 ^ result.k ≡ n * 2 ^ e }
     ensures k_le_e { result.k ≤ e }
@@ -133,9 +133,9 @@ fn of_patterns(a: u64, b: u64, c: u64) -> f32
     requires a_bound { a < 2 ^ 32 }
     requires b_bound { b < 2 ^ 32 }
     requires c_bound { c < 2 ^ 32 }
-    requires t { T (Scale.finite (from_bits binary32 a)) }
-    requires t_2 { T (Scale.finite (from_bits binary32 b)) }
-    requires t_3 { T (Scale.finite (from_bits binary32 c)) }
+    requires a_finite { T (Scale.finite (from_bits binary32 a)) }
+    requires b_finite { T (Scale.finite (from_bits binary32 b)) }
+    requires c_finite { T (Scale.finite (from_bits binary32 c)) }
     ensures { result ≡ fma binary32 (from_bits binary32 a) (from_bits binary32 b) (from_bits binary32 c) }
 {
     let x = bits::part_of(a % SIGN, FRACTION);
@@ -150,9 +150,9 @@ fn of_patterns(a: u64, b: u64, c: u64) -> f32
 
 // a * b + c.
 pub fn whole(a: f32, b: f32, c: f32) -> f32
-    requires t { T (Scale.finite a) }
-    requires t_2 { T (Scale.finite b) }
-    requires t_3 { T (Scale.finite c) }
+    requires a_finite { T (Scale.finite a) }
+    requires b_finite { T (Scale.finite b) }
+    requires c_finite { T (Scale.finite c) }
     ensures { result ≡ fma binary32 a b c }
 {
     of_patterns(

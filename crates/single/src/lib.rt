@@ -4,6 +4,8 @@
 // an `f32`'s last place added to that, and the 29 digits past it cut off, is the sum rounded once
 // to 24, unless the 53 digits lie halfway between two `f32`, where what was lost decides. If nothing
 // was, the even one is taken; what is left `general` takes by whole numbers.
+#![tactic(auto)]
+
 mod general;
 
 ghost use Rattle.std.specs.Prelude.{◌≡◌};

@@ -1,4 +1,6 @@
 // Words of two and four bytes in a slice of bytes, the lowest byte first: read and written.
+#![tactic(auto)]
+
 ghost use Rattle.std.specs.Prelude.{◌≡◌, ◌-◌, ◌<◌};
 ghost use Rattle.words.specs.Words as Words;
 
