@@ -3,6 +3,8 @@
 // A finite value is m * 2 ^ k units of its format's smallest value. The product of two is a number
 // of squares of that unit, and so is the third value: `quick` takes both whole where their
 // exponents are near, and `double_general` takes the rest, the smaller term cut to an odd number.
+#![tactic(auto)]
+
 mod long;
 mod quick;
 

@@ -18,9 +18,6 @@ returns-then-lo-eq0 c =
     let z : a.hi * 4611686018427387904 + a.lo ≡ 0 = omega (arith, c.if-lo-eq0.true, c.if-hi-eq0.true) in
     c.signed.ensures ∙ sym (round-zero binary64 a.s 1092) ∙ ap (λ (x : ℕ). round binary64 a.s x (2 ^ 2166)) (sym (ap (λ (x : ℕ). x * 2 ^ a.e) z ∙ zero-mul (2 ^ a.e)))
 
-pub top-g-requires : goal.top-g-requires
-top-g-requires c = record { lo_nonzero = ⊎_elim (λ w. omega arith) (λ w. omega arith) c.if-hi-eq0.branch; hi_bound = omega arith; lo_bound = omega arith; le_e = omega arith; e_bound = omega arith }
-
 pub overflow_add-k : goal.overflow_add-k
 overflow_add-k c =
     let g = c.top-g in

@@ -55,10 +55,11 @@ returns c =
     let h : a.lo < 4611686018427387904 = omega arith in
     let k : a.s ≤ 62 = omega arith in
     let e = low-is a.hi a.lo a.s h k in
-    let l = lower-lt a.hi a.lo a.s h k in (
-      ap (λ (x : ℕ). a.hi / 2 ^ a.s * 4611686018427387904 + (x + (1 - x % 2))) e ∙ cut-some a.hi a.lo a.s h k (λ (z : a.lo % 2 ^ a.s ≡ 0). c.if-lo-s-eq0.false (ap (λ (x : ℕ). a.lo % x) (one_shl a.s (omega arith)) ∙ z)),
-      subst (λ (x : ℕ). x + (1 - x % 2) < 4611686018427387904) (sym e) (odd-below (lower a.hi a.lo a.s h k) l),
-    )
+    let l = lower-lt a.hi a.lo a.s h k in
+    record {
+      lo_value = ap (λ (x : ℕ). a.hi / 2 ^ a.s * 4611686018427387904 + (x + (1 - x % 2))) e ∙ cut-some a.hi a.lo a.s h k (λ (z : a.lo % 2 ^ a.s ≡ 0). c.if-lo-s-eq0.false (ap (λ (x : ℕ). a.lo % x) (one_shl a.s (omega arith)) ∙ z));
+      result_bound = subst (λ (x : ℕ). x + (1 - x % 2) < 4611686018427387904) (sym e) (odd-below (lower a.hi a.lo a.s h k) l)
+    }
   where
     odd-below : (x : ℕ) → x < 4611686018427387904 → x + (1 - x % 2) < 4611686018427387904
     odd-below x g = omega arith

@@ -3,8 +3,7 @@ use Rattle.std.proofs.Common.{◌≡◌, ℕ, ◌+◌, ◌-◌, ◌*◌, ◌/◌
 use lib.Ieee.{binary64}
 use Rattle.rounding.specs.Steps.{significand}
 use Rattle.rounding.proofs.Nearby.{near-whole, significand-normal}
-use Rattle.double.proofs.quick.close.Statement.{statement}
-use Rattle.double.proofs.quick.close.Tie as tie
+use Rattle.double.proofs.quick.close.Goals as goal
 
 -- how far the third term is moved
 moved : (d : ℕ) → d ≤ 60 → (3 ≤ d + 3) × (d + 3 ≤ 63)
@@ -35,62 +34,35 @@ zeros c h = digits c ∙ ap (λ (x : ℕ). x * 2048) (significand-normal binary6
     digits : (c : ℕ) → 9223372036854775808 + c * 2048 % 18446744073709551616 % 9223372036854775808 ≡ (4503599627370496 + c % 4503599627370496) * 2048
     digits c = omega arith
 
-add-x : tie.Need-overflow-add-x
-add-x c = search rules
+pub overflow_add-d : goal.overflow_add-d
+overflow_add-d c = record { fits = fitting c.args.d c.requires.d_bound }
 
-add_times : tie.Need-overflow-add-times
-add_times c = search rules
+pub placed-v-requires : goal.placed-v-requires
+placed-v-requires c = let m = moved c.args.d c.requires.d_bound in record { le_t = m.0; t_bound = m.1 }
 
-add-times-2 : tie.Need-overflow-add-times-2
-add-times-2 c = search rules
-
-times-requires : tie.Need-times-requires
-times-requires c κs = search rules
-
-add-placed : tie.Need-overflow-add-placed
-add-placed c = search rules
-
-add-placed-2 : tie.Need-overflow-add-placed-2
-add-placed-2 c = record { fits = fitting c.before.args.d c.before.requires.1.0 }
-
-placed-requires : tie.Need-placed-requires
-placed-requires c κs = moved c.before.args.d c.before.requires.1.0
-
-joined-requires : tie.Need-joined-requires
-joined-requires c κs =
-    let pre = c.before.before.requires in
-    let n = pre.0 in
-    let a = c.before.before.args in
-    let p = c.before.times in
-    let v = c.placed in
+pub joined-requires : goal.joined-requires
+joined-requires c =
+    let pre = c.requires in
+    let n = pre.near in
+    let a = c.args in
+    let p = c.times-p in
+    let v = c.placed-v in
     let q = significand 4503599627370496 (a.k % 9223372036854775808) in
     let x = 4503599627370496 + a.i % 4503599627370496 in
     let y = 4503599627370496 + a.j % 4503599627370496 in
     let t = 64 - (a.d + 3) in
-    let few = pre.1.0 in
+    let few = pre.d_bound in
     let pq = product (a.i % 4503599627370496) (a.j % 4503599627370496) (mod-lt a.i (lit< tt)) (mod-lt a.j (lit< tt)) in
-    let hi = upper p.result.hi p.result.lo (x * y) p.ensures.0 p.ensures.1 pq.0 pq.1 in
-    let ex = exponents (a.i % 9223372036854775808 / 4503599627370496) (a.j % 9223372036854775808 / 4503599627370496) (a.k % 9223372036854775808 / 4503599627370496) a.d n.apart few n.c-some n.c-most in (
-      pre.1.1
+    let hi = upper p.result.hi p.result.lo (x * y) p.ensures.lo_value p.ensures.lo_bound pq.0 pq.1 in
+    let ex = exponents (a.i % 9223372036854775808 / 4503599627370496) (a.j % 9223372036854775808 / 4503599627370496) (a.k % 9223372036854775808 / 4503599627370496) a.d n.apart few n.c-some n.c-most in
+    record {
+      c_value = pre.c_value
           ∙ near-whole binary64 a.i a.j a.k (72 - a.d) (p.result.hi * 18446744073709551616 + p.result.lo) (v.result.hi * 18446744073709551616 + v.result.lo) n
-          (p.ensures.0 ∙ ap (λ (w : ℕ). w * y) (significand-normal binary64 a.i n.a-some) ∙ ap (λ (w : ℕ). significand 4503599627370496 (a.i % 9223372036854775808) * w) (significand-normal binary64 a.j n.b-some))
-          (v.ensures.0 ∙ ap (λ (w : ℕ). w * 2 ^ t) (zeros a.k (omega (arith, n.c-some))) ∙ mul_assoc q 2048 (2 ^ t) ∙ ap (λ (w : ℕ). q * w) (sym (pow-add 2 11 t) ∙ ap (λ (w : ℕ). 2 ^ w) (omega arith))),
-      (hi.0, (hi.1, (v.ensures.1, ex))),
-    )
-
-returns : tie.Need-returns
-returns c = search rules
-
-pub close_spec : {M : Type 1} → statement M
-close_spec =
-    tie.close
-    (tie.spec
-    add-x
-    add_times
-    add-times-2
-    times-requires
-    add-placed
-    add-placed-2
-    placed-requires
-    joined-requires
-    returns)
+          (p.ensures.lo_value ∙ ap (λ (w : ℕ). w * y) (significand-normal binary64 a.i n.a-some) ∙ ap (λ (w : ℕ). significand 4503599627370496 (a.i % 9223372036854775808) * w) (significand-normal binary64 a.j n.b-some))
+          (v.ensures.lo_value ∙ ap (λ (w : ℕ). w * 2 ^ t) (zeros a.k (omega (arith, n.c-some))) ∙ mul_assoc q 2048 (2 ^ t) ∙ ap (λ (w : ℕ). q * w) (sym (pow-add 2 11 t) ∙ ap (λ (w : ℕ). 2 ^ w) (omega arith)));
+      ph_nonzero = hi.0;
+      ph_bound = hi.1;
+      vh_bound = v.ensures.hi_bound;
+      le_x = ex.0;
+      x_bound = ex.1
+    }
