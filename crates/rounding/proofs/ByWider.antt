@@ -9,7 +9,7 @@ use mathlib.Core.Bool.{Bool, true, false, not, ◌&&◌, cond}
 use lib.IntN.{ℤ}
 use lib.Dec.{T}
 use lib.Pow.{pow_pos}
-use lib.Ieee.{Float, nan, fin, binary32, binary64, up, down, sum, add, mul, eq, round, fits, is_nan, nan_bits, of_bits, to_bits, size}
+use lib.Ieee.{Float, nan, fin, binary32, binary64, up, down, add, mul, eq, round, fits, is_nan, nan_bits, of_bits, to_bits, size}
 use lib.Ieee.Fits.{add-fits, and_i}
 use lib.Ieee.Bits.{of_bits-to_bits, to_bits-of_bits, nan_bits_is}
 use lib.Ieee.Nearest.{closest}

@@ -5,7 +5,7 @@ use mathlib.Core.Logic.{inl, inr}
 use Prim.Native.Nat.{ℕ, ◌+◌, ◌-◌, ◌*◌, ◌/◌, ◌%◌, ◌^◌, ◌≤◌, ◌<◌, min}
 use native.Mathlib.Nat.{mul_assoc, mul-mul-mul_comm, mul-pos, eq_of_mul-eq-mul_right, mul_right_comm}
 use native.Mathlib.Omega.{arith}
-use mathlib.Core.Bool.{Bool, true, false, not, cond}
+use mathlib.Core.Bool.{Bool, cond}
 use lib.Pow.{pow-add, pow_pos, shr-shr}
 use lib.Ieee.{Float, nan, inf, fin, binary32, binary64, up, down, round, of_bits, size}
 use lib.Ieee.Fits.{fits_widens}

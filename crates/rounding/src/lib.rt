@@ -1,1 +1,3 @@
+#![tactic(auto)]
+
 // Definitions and laws, with no function of its own.

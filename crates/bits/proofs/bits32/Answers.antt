@@ -1,5 +1,4 @@
 -- `bits::bits32` meets its contract. Assumes nothing.
-use borrow.Author.Rules.{rules}
 use lib.Ieee.{to_bits}
 use Rattle.rounding.proofs.Nan.{is-nan, not-nan}
 use Rattle.bits.proofs.bits32.Goals as goal

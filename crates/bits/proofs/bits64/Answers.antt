@@ -1,5 +1,4 @@
 -- `bits::bits64` meets its contract. Assumes nothing.
-use borrow.Author.Rules.{rules}
 use lib.Ieee.{to_bits}
 use Rattle.rounding.proofs.Nan.{is-nan, not-nan}
 use Rattle.bits.proofs.bits64.Goals as goal

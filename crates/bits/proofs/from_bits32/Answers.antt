@@ -1,5 +1,4 @@
 -- `bits::from_bits32` meets its contract. Assumes nothing.
-use borrow.Author.Rules.{rules}
 use mathlib.Core.Path.{sym, ◌∙◌}
 use lib.Ieee.{binary32}
 use Rattle.rounding.proofs.Nan.{quotient, above, upto}

@@ -1,5 +1,4 @@
 -- `bits::from_bits64` meets its contract. Assumes nothing.
-use borrow.Author.Rules.{rules}
 use mathlib.Core.Path.{sym, ◌∙◌}
 use lib.Ieee.{binary64}
 use Rattle.rounding.proofs.Nan.{quotient, above, upto}

@@ -1,5 +1,5 @@
 -- `double::fma` meets its contract. Assumes nothing.
-use Rattle.std.proofs.Common.{◌∙◌, inl, inr, ⊎_elim, rules}
+use Rattle.std.proofs.Common.{◌∙◌, inl, inr}
 use lib.Ieee.{binary64}
 use Rattle.rounding.proofs.Zero.{is_zero, zero-factor, zero-third}
 use Rattle.double.proofs.fma.Goals as goal

@@ -1,6 +1,6 @@
 -- `double::nonzero` meets its contract. Assumes nothing.
-use Rattle.std.proofs.Common.{◌-◌, T, sym, refl, ◌∙◌, subst, inl, inr, ⊎_elim, arith, rules}
-use lib.Ieee.{binary64, fits, to_bits}
+use Rattle.std.proofs.Common.{◌-◌, sym, refl, ◌∙◌, inl, inr, arith}
+use lib.Ieee.{binary64, to_bits}
 use Rattle.rounding.proofs.Nan.{is-nan, not-nan, fma-nan, quotient}
 use Rattle.rounding.proofs.Terms.{fma-of-patterns}
 use Rattle.rounding.proofs.Nearby.{near_of, unwrapped}
@@ -15,7 +15,7 @@ returns-then-a c =
     ∙ sym
     (fma-nan binary64 a.a a.b a.c
     (elim c.then-a.branch [
-        then-a-via-then-a w ↦ inl (is-nan a.a w.if-a.true)
+      | then-a-via-then-a w ↦ inl (is-nan a.a w.if-a.true)
       | then-a-via-else-a+then-b w ↦ inr (inl (is-nan a.b w.if-b.true))
       | then-a-via-else-a+else-b+then-c w ↦ inr (inr (is-nan a.c w.if-c.true))
     ]))

@@ -5,7 +5,6 @@ use native.Mathlib.Nat.{mul-le-mul, mul-mul-mul_comm}
 use native.Mathlib.Omega.{arith}
 use Rattle.rounding.specs.Steps.{stick}
 use Rattle.rounding.proofs.Fused.{stick-zero}
-use borrow.Author.Rules.{rules}
 use Rattle.double_general.proofs.aligned.Goals as goal
 
 product : (m n : ℕ) → m < 9007199254740992 → n < 9007199254740992 → m * 512 % 18446744073709551616 * (n * 512 % 18446744073709551616) ≡ m * n * 262144

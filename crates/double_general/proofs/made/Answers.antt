@@ -1,7 +1,5 @@
 -- `double_general::made` meets its contract. Assumes nothing.
-use borrow.Author.Rules.{rules}
 use mathlib.Core.Path.{◌≡◌, sym, ap, ◌∙◌}
-use mathlib.Core.Logic.{⊎_elim}
 use Prim.Native.Nat.{ℕ, ◌+◌, ◌-◌, ◌*◌, ◌%◌, ◌^◌, min}
 use native.Mathlib.Nat.{zero-mul, mod-eq_of_lt}
 use native.Mathlib.Omega.{arith}

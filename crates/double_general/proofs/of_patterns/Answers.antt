@@ -6,7 +6,6 @@ use native.Mathlib.Omega.{arith}
 use lib.Ieee.{binary64}
 use Rattle.rounding.proofs.Terms.{significand-lt, product_lt, exponent-le, fma-of-terms}
 use Rattle.rounding.proofs.TwoDigits.{stick-self}
-use borrow.Author.Rules.{rules}
 use Rattle.double_general.proofs.of_patterns.Goals as goal
 
 pub aligned-w-requires : goal.aligned-w-requires

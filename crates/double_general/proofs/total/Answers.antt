@@ -6,7 +6,6 @@ use mathlib.Core.Bool.{Bool, not}
 use lib.Dec.{T}
 use lib.Ieee.{binary64, round}
 use Rattle.rounding.proofs.Terms.{total-like, total-less, total-more, total-none, less-taken, less-left}
-use borrow.Author.Rules.{rules}
 use Rattle.double_general.proofs.total.Goals as goal
 
 pub returns-then-s-t : goal.returns-then-s-t

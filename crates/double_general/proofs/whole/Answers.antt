@@ -1,9 +1,8 @@
 -- `double_general::whole` meets its contract. Assumes nothing.
-use borrow.Author.Rules.{rules}
-use mathlib.Core.Path.{sym, ◌∙◌, subst}
+use mathlib.Core.Path.{◌∙◌}
 use mathlib.Core.Logic.{inl, inr}
 use lib.Dec.{T}
-use lib.Ieee.{binary64, fits}
+use lib.Ieee.{binary64}
 use lib.Ieee.Scale.{finite}
 use Rattle.rounding.proofs.Terms.{not_finite, is_finite, finite-no-nan, fma-plain, fma-third, pattern-finite, fma-of-patterns}
 use Rattle.double_general.proofs.whole.Goals as goal

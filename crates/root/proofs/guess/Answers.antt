@@ -1,6 +1,6 @@
 -- `root::guess` meets its contract.
 -- Assumes nothing.
-use Rattle.std.proofs.Common.{arith, rules}
+use Rattle.std.proofs.Common.{arith}
 use Rattle.root.proofs.Parts.{number}
 use Rattle.root.proofs.guess.Goals as goal
 

@@ -1,6 +1,6 @@
 -- `root::nearest_root` meets its contract, whatever the guess. The first loop takes q down until q * q is below n + q, and the second up, keeping that, until n is at most q * q + q.
 -- Assumes nothing.
-use Rattle.std.proofs.Common.{◌+◌, ◌-◌, ◌*◌, ◌<◌, ◌≤◌, arith}
+use Rattle.std.proofs.Common.{arith}
 use Rattle.root.proofs.Squares.{sq-le, nearest-of, some_left, less-than-most, one_up}
 use Rattle.root.proofs.nearest_root.Goals as goal
 

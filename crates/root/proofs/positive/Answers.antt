@@ -1,6 +1,6 @@
 -- `root::positive` meets its contract.
 -- Assumes nothing.
-use Rattle.std.proofs.Common.{◌≡◌, ℕ, ◌+◌, ◌-◌, ◌*◌, ◌/◌, ◌%◌, ◌^◌, ◌<◌, ◌≤◌, sym, refl, ap, ◌∙◌, mul-one, arith, rules}
+use Rattle.std.proofs.Common.{◌≡◌, ℕ, ◌+◌, ◌-◌, ◌*◌, ◌/◌, ◌%◌, ◌^◌, ◌<◌, ◌≤◌, sym, refl, ap, ◌∙◌, mul-one, arith}
 use lib.Ieee.{binary32, of_bits}
 use Rattle.root.specs.Steps.{NearestWhole}
 use Rattle.root.proofs.Parts.{number, Steps, steps-normal, significand-all, root-pattern, q-most}

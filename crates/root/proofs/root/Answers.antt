@@ -1,7 +1,7 @@
 -- `root::root` meets its contract.
 -- Assumes nothing.
-use Rattle.std.proofs.Common.{T, sym, ap, ◌∙◌, subst, arith}
-use lib.Ieee.{binary32, fits, nan_bits}
+use Rattle.std.proofs.Common.{sym, ap, ◌∙◌, arith}
+use lib.Ieee.{binary32, nan_bits}
 use lib.Ieee.Bits.{of_bits-to_bits, to_bits-lt}
 use Rattle.rounding.proofs.Nan.{quotient}
 use Rattle.root.specs.Root.{root}

@@ -1,6 +1,5 @@
 -- `words::put_u16` meets its contract.
 -- Assumes nothing.
-use borrow.Author.Rules.{rules}
 use native.Mathlib.Omega.{arith}
 use lib.ListN.{length, length-set}
 use Rattle.words.proofs.Inside.{lacks, has}

@@ -1,6 +1,5 @@
 -- `words::u16_at` meets its contract.
 -- Assumes nothing.
-use borrow.Author.Rules.{rules}
 use native.Mathlib.Omega.{arith}
 use lib.ListN.{length}
 use Rattle.words.proofs.Inside.{lacks, has}

@@ -1,6 +1,5 @@
 -- `words::u32_at` meets its contract.
 -- Assumes nothing.
-use borrow.Author.Rules.{rules}
 use native.Mathlib.Omega.{arith}
 use lib.ListN.{length}
 use Rattle.words.proofs.Inside.{lacks, read-halves}

@@ -1,5 +1,5 @@
 -- `double::long::minus` meets its contract. Assumes nothing.
-use Rattle.std.proofs.Common.{◌≡◌, ℕ, ◌+◌, ◌-◌, ◌*◌, sym, subst, ⊎_elim, arith, rules}
+use Rattle.std.proofs.Common.{◌≡◌, ℕ, ◌+◌, ◌-◌, ◌*◌, sym, subst, ⊎_elim, arith}
 use Rattle.rounding.proofs.Words.{minus-less, minus-more}
 use Rattle.double.proofs.long.minus.Goals as goal
 

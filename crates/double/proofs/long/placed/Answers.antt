@@ -1,5 +1,5 @@
 -- `double::long::placed` meets its contract. Assumes nothing.
-use Rattle.std.proofs.Common.{arith, rules}
+use Rattle.std.proofs.Common.{arith}
 use Rattle.rounding.proofs.Words.{placed-is, placed-lt}
 use Rattle.double.proofs.long.placed.Goals as goal
 

@@ -1,6 +1,5 @@
 -- `double::long::stuck` meets its contract. Assumes nothing.
 use Rattle.rounding.proofs.Words.{stuck-none, stuck-some}
-use Rattle.std.proofs.Common.{rules}
 use Rattle.double.proofs.long.stuck.Goals as goal
 
 pub returns-then-rest-eq0 : goal.returns-then-rest-eq0

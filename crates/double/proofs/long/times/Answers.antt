@@ -1,5 +1,5 @@
 -- `double::long::times` meets its contract. Assumes nothing.
-use Rattle.std.proofs.Common.{ℕ, ◌+◌, ◌*◌, ◌/◌, ◌%◌, ◌<◌, ◌≤◌, sym, ap, ◌∙◌, subst, mod-lt, div-add-mod', arith, lit<, rules}
+use Rattle.std.proofs.Common.{ℕ, ◌+◌, ◌*◌, ◌/◌, ◌%◌, ◌<◌, ◌≤◌, sym, ap, ◌∙◌, subst, mod-lt, div-add-mod', arith, lit<}
 use Rattle.rounding.proofs.TwoDigits.{spread}
 use Rattle.rounding.proofs.Words.{quarters, carried, carried-fits}
 use Rattle.double.proofs.long.times.Goals as goal

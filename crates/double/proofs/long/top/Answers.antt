@@ -1,5 +1,5 @@
 -- `double::long::top` meets its contract. Assumes nothing.
-use Rattle.std.proofs.Common.{arith, rules}
+use Rattle.std.proofs.Common.{arith}
 use Rattle.rounding.proofs.Words.{head}
 use Rattle.double.proofs.long.top.Goals as goal
 

@@ -1,5 +1,5 @@
 -- `double::quick::close` meets its contract. Assumes nothing.
-use Rattle.std.proofs.Common.{◌≡◌, ℕ, ◌+◌, ◌-◌, ◌*◌, ◌/◌, ◌%◌, ◌^◌, ◌<◌, ◌≤◌, sym, ap, ◌∙◌, lt_of_le_of_lt, mod-lt, mul_assoc, mul-le-mul, arith, lit<, pow-add, rules}
+use Rattle.std.proofs.Common.{◌≡◌, ℕ, ◌+◌, ◌-◌, ◌*◌, ◌/◌, ◌%◌, ◌^◌, ◌<◌, ◌≤◌, sym, ap, ◌∙◌, lt_of_le_of_lt, mod-lt, mul_assoc, mul-le-mul, arith, lit<, pow-add}
 use lib.Ieee.{binary64}
 use Rattle.rounding.specs.Steps.{significand}
 use Rattle.rounding.proofs.Nearby.{near-whole, significand-normal}
@@ -64,5 +64,5 @@ joined-requires c =
       ph_bound = hi.1;
       vh_bound = v.ensures.hi_bound;
       le_x = ex.0;
-      x_bound = ex.1
+      x_bound = ex.1;
     }

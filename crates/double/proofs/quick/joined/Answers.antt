@@ -1,5 +1,5 @@
 -- `double::quick::joined` meets its contract. Assumes nothing.
-use Rattle.std.proofs.Common.{ℕ, ◌+◌, ◌-◌, ◌*◌, ◌^◌, Bool, not, T, sym, ap, ◌∙◌, subst, lt_of_lt_of_le, arith, rules}
+use Rattle.std.proofs.Common.{ℕ, ◌+◌, ◌-◌, ◌*◌, ◌^◌, Bool, not, T, sym, ap, ◌∙◌, subst, lt_of_lt_of_le, arith}
 use lib.Ieee.{binary64, round}
 use Rattle.rounding.proofs.Terms.{total-like, total-less, total-more}
 use Rattle.rounding.proofs.Words.{higher}

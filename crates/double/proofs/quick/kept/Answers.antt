@@ -1,5 +1,5 @@
 -- `double::quick::kept` meets its contract. Assumes nothing.
-use Rattle.std.proofs.Common.{arith, rules}
+use Rattle.std.proofs.Common.{arith}
 use Rattle.rounding.proofs.Machine.{nearest-sum}
 use Rattle.double.proofs.quick.kept.Goals as goal
 

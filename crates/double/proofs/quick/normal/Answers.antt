@@ -1,5 +1,5 @@
 -- `double::quick::normal` meets its contract. Assumes nothing.
-use Rattle.std.proofs.Common.{◌≡◌, ℕ, ◌+◌, ◌-◌, ◌*◌, ◌%◌, ◌^◌, ◌≤◌, cond, sym, ap, ◌∙◌, subst, mod-eq_of_lt, arith, pow_pos, pow-add, rules}
+use Rattle.std.proofs.Common.{◌≡◌, ℕ, ◌+◌, ◌-◌, ◌*◌, ◌%◌, ◌^◌, ◌≤◌, cond, sym, ap, ◌∙◌, subst, mod-eq_of_lt, arith, pow_pos, pow-add}
 use lib.Ieee.{binary64, of_bits}
 use Rattle.rounding.specs.Steps.{Sticky}
 use Rattle.rounding.proofs.Fused.{scaled}

@@ -1,5 +1,5 @@
 -- `double::quick::signed` meets its contract. Assumes nothing.
-use Rattle.std.proofs.Common.{ℕ, ◌+◌, Bool, true, false, cond, not, T, sym, ap, ◌∙◌, subst, zero-add, arith, rules}
+use Rattle.std.proofs.Common.{ℕ, ◌+◌, Bool, true, false, cond, not, T, sym, ap, ◌∙◌, subst, zero-add, arith}
 use lib.Ieee.{binary64, of_bits, nan_bits}
 use Rattle.rounding.proofs.Terms.{no_nan}
 use Rattle.double.proofs.quick.signed.Goals as goal

@@ -6,7 +6,6 @@ use native.Mathlib.Omega.{arith}
 use lib.Pow.{pow_pos}
 use Rattle.rounding.proofs.Machine.{one_shl}
 use Rattle.rounding.proofs.TwoDigits.{stick-self, stick-62, stick-62-odd, lower, lower-lt, lower-shl, cut-whole, cut-some}
-use borrow.Author.Rules.{rules}
 use Rattle.double_general.proofs.wide.sticky.Goals as goal
 
 -- the lower digit as the code has it
@@ -58,7 +57,7 @@ returns c =
     let l = lower-lt a.hi a.lo a.s h k in
     record {
       lo_value = ap (λ (x : ℕ). a.hi / 2 ^ a.s * 4611686018427387904 + (x + (1 - x % 2))) e ∙ cut-some a.hi a.lo a.s h k (λ (z : a.lo % 2 ^ a.s ≡ 0). c.if-lo-s-eq0.false (ap (λ (x : ℕ). a.lo % x) (one_shl a.s (omega arith)) ∙ z));
-      result_bound = subst (λ (x : ℕ). x + (1 - x % 2) < 4611686018427387904) (sym e) (odd-below (lower a.hi a.lo a.s h k) l)
+      result_bound = subst (λ (x : ℕ). x + (1 - x % 2) < 4611686018427387904) (sym e) (odd-below (lower a.hi a.lo a.s h k) l);
     }
   where
     odd-below : (x : ℕ) → x < 4611686018427387904 → x + (1 - x % 2) < 4611686018427387904

@@ -5,7 +5,6 @@ use native.Mathlib.Nat.{mul_assoc}
 use native.Mathlib.Omega.{arith}
 use lib.Pow.{pow-add}
 use Rattle.rounding.specs.Steps.{Sticky}
-use borrow.Author.Rules.{rules}
 use Rattle.double_general.proofs.wide.top.Goals as goal
 
 -- one digit of base 2 ^ 62 is two, the other a zero, at an exponent that is 62 lower

@@ -1,5 +1,5 @@
 -- `single::general::aligned` meets its contract. Assumes nothing.
-use Rattle.std.proofs.Common.{◌≡◌, ℕ, ◌-◌, ◌*◌, ◌%◌, sym, ap, ◌∙◌, arith, rules}
+use Rattle.std.proofs.Common.{◌≡◌, ℕ, ◌-◌, ◌*◌, ◌%◌, sym, ap, ◌∙◌, arith}
 use Rattle.rounding.specs.Steps.{stick}
 use Rattle.rounding.proofs.Fused.{stick-zero}
 use Rattle.single.proofs.general.aligned.Goals as goal

@@ -1,5 +1,5 @@
 -- `single::general::made` meets its contract. Assumes nothing.
-use Rattle.std.proofs.Common.{◌≡◌, ℕ, ◌+◌, ◌-◌, ◌*◌, ◌%◌, ◌^◌, min, cond, sym, ap, ◌∙◌, inl, mod-eq_of_lt, zero-mul, arith, rules}
+use Rattle.std.proofs.Common.{◌≡◌, ℕ, ◌+◌, ◌-◌, ◌*◌, ◌%◌, ◌^◌, min, cond, sym, ap, ◌∙◌, inl, mod-eq_of_lt, zero-mul, arith}
 use lib.Ieee.{binary32, round, of_bits}
 use Rattle.rounding.proofs.Machine.{closest-most}
 use Rattle.rounding.proofs.Terms.{round-zero}

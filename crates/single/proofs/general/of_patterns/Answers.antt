@@ -1,5 +1,5 @@
 -- `single::general::of_patterns` meets its contract. Assumes nothing.
-use Rattle.std.proofs.Common.{ℕ, ◌+◌, ◌-◌, ◌*◌, ◌%◌, ◌<◌, ◌≤◌, sym, subst, le_trans, le_of_eq, arith, rules}
+use Rattle.std.proofs.Common.{ℕ, ◌+◌, ◌-◌, ◌*◌, ◌%◌, ◌<◌, ◌≤◌, sym, subst, le_trans, le_of_eq, arith}
 use lib.Pow.{shr_le}
 use lib.Ieee.{binary32}
 use Rattle.rounding.proofs.Fused.{stick-le}

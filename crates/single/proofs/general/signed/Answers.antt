@@ -1,5 +1,5 @@
 -- `single::general::signed` meets its contract. Assumes nothing.
-use Rattle.std.proofs.Common.{ℕ, ◌+◌, Bool, true, false, cond, not, T, sym, ap, ◌∙◌, subst, zero-add, arith, rules}
+use Rattle.std.proofs.Common.{ℕ, ◌+◌, Bool, true, false, cond, not, T, sym, ap, ◌∙◌, subst, zero-add, arith}
 use lib.Ieee.{binary32, of_bits, nan_bits}
 use Rattle.rounding.proofs.Terms.{no_nan}
 use Rattle.single.proofs.general.signed.Goals as goal

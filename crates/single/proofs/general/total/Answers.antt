@@ -1,5 +1,5 @@
 -- `single::general::total` meets its contract. Assumes nothing.
-use Rattle.std.proofs.Common.{◌^◌, Bool, not, T, sym, ◌∙◌, subst, rules}
+use Rattle.std.proofs.Common.{◌^◌, Bool, not, T, sym, ◌∙◌, subst}
 use lib.Ieee.{binary32}
 use Rattle.rounding.proofs.Terms.{total-like, total-less, total-more, total-none}
 use Rattle.single.proofs.general.total.Goals as goal

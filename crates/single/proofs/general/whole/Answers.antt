@@ -1,6 +1,6 @@
 -- `single::general::whole` meets its contract. Assumes nothing.
-use Rattle.std.proofs.Common.{T, sym, subst, arith}
-use lib.Ieee.{binary32, fits}
+use Rattle.std.proofs.Common.{arith}
+use lib.Ieee.{binary32}
 use lib.Ieee.Bits.{to_bits-lt}
 use Rattle.rounding.proofs.Terms.{finite-no-nan, pattern-finite, fma-of-patterns}
 use Rattle.single.proofs.general.whole.Goals as goal
