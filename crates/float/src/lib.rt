@@ -1,6 +1,8 @@
 // Float arithmetic as document 01 has it: fused multiply-add in both widths, and of `f32` that an
 // `f64` holds; size, truncation, `f64` to `f32` and back, and bits; and document 02's root. Every
 // function is total, and every NaN that it returns is the quiet 7FC00000 or 7FF8000000000000.
+#![tactic(auto)]
+
 mod casts;
 mod wide;
 
