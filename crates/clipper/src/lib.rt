@@ -9,7 +9,7 @@ ghost use Rattle.clipper.specs.Block as blocks;
 
 use answer::{Answer, Refusal};
 
-#[derive(Drop)]
+#[derive(Clone, Copy)]
 pub enum Kind {
     Hard,
     Triode,

@@ -8,7 +8,7 @@ use noise_gate_settings::Settings;
 
 // What a sample moves.
 #[repr(C)]
-#[derive(Drop)]
+#[derive(Clone, Copy)]
 pub struct Registers {
     pub level: f32,
     pub state: f32,
@@ -17,7 +17,7 @@ pub struct Registers {
 }
 
 // What a sample leaves and gives, and whether the gate aims open at it.
-#[derive(Drop)]
+#[derive(Clone, Copy)]
 pub struct Stepped {
     pub registers: Registers,
     pub output: f32,
