@@ -1,4 +1,6 @@
 // A band of the equaliser: what a host sets, its name, its step; and sixteen in a row.
+#![tactic(auto)]
+
 mod bands;
 mod names;
 mod row;

@@ -1,4 +1,6 @@
 // The noise gate: its state, and what its calls answer.
+#![tactic(auto)]
+
 mod bounds;
 mod calls;
 mod samples;

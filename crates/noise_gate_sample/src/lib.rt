@@ -1,4 +1,6 @@
 // One sample of the noise gate, over any bits: what it moves and what it gives.
+#![tactic(auto)]
+
 ghost use Rattle.std.specs.Prelude.{suc, ◌-◌, min, ltb, cond, ◌||◌, ◌≡◌};
 ghost use Rattle.noise_gate_sample.specs.Figures.{longest_quiet};
 ghost use Rattle.noise_gate_sample.specs.Step as Step;

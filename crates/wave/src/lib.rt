@@ -1,5 +1,7 @@
 // Recordings as RIFF WAVE files in a lent buffer: their rate, and where their samples lie.
 // Assumes nothing.
+#![tactic(auto)]
+
 ghost use Rattle.std.specs.Prelude.{◌≡◌, ◌+◌, ◌*◌, ◌≤◌, ◌<◌, ◌^◌, min, eqb, length};
 ghost use Rattle.wave.specs.Answers as Answers;
 ghost use Rattle.wave.specs.Reading as Reading;
