@@ -1,11 +1,10 @@
 -- `noise_gate::calls::block_recorded` meets its contract. Assumes nothing.
 use mathlib.Core.Path.{sym, ◌∙◌}
-use borrow.Author.Tests.{not-true, not-false, eqb-true}
+use borrow.Author.Tests.{eqb-true}
 use Rattle.answer.specs.Blocks.{checked_block}
 use Rattle.answer.proofs.Blocks.{accepted as accepted-block}
 use Rattle.answer.proofs.Refusals.{not_done}
 use Rattle.noise_gate.specs.Calls.{block, block_recorded}
-use borrow.Author.Rules.{rules}
 use Rattle.noise_gate.proofs.calls.block_recorded.Goals as goal
 
 pub returns-then-not-acceptable : goal.returns-then-not-acceptable

@@ -1,8 +1,6 @@
 -- `noise_gate::calls::set_typed` meets its contract. Assumes nothing.
 use mathlib.Core.Path.{sym, ◌∙◌}
-use borrow.Author.Tests.{not-true, not-false}
 use Rattle.noise_gate.specs.Calls.{set_typed}
-use borrow.Author.Rules.{rules}
 use Rattle.noise_gate.proofs.calls.set_typed.Goals as goal
 
 pub returns-then-not-acceptable : goal.returns-then-not-acceptable

@@ -1,6 +1,5 @@
 -- `noise_gate::calls::unmade` meets its contract. Assumes nothing.
 use lib.Ieee.{of_bits}
-use borrow.Author.Rules.{rules}
 use Rattle.noise_gate.proofs.calls.unmade.Goals as goal
 
 pub returns : goal.returns

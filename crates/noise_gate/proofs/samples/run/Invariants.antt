@@ -1,15 +1,10 @@
 -- `noise_gate::samples::run` meets its contract. Assumes nothing.
 use Prim.Native.Nat.{◌-◌}
-use native.Mathlib.Omega.{arith}
-use mathlib.Core.Logic.{⊎_elim}
-use mathlib.Core.Path.{◌≡◌, refl, ◌∙◌}
-use lib.ListN.{length, length-set}
-use lib.Ieee.{nan}
-use Rattle.fold.specs.Fold.{more}
-use Rattle.fold.proofs.Block.{Upto, start, onward, ended, Counted, counts, skips, start-count, onward-count, ended-count}
-use borrow.Author.Rules.{rules}
+use mathlib.Core.Path.{◌≡◌}
+use lib.ListN.{length}
+use Rattle.fold.proofs.Block.{Upto, Counted}
 use Rattle.noise_gate.specs.Calls.{byte_at}
-use Rattle.noise_gate_sample.specs.Step.{aim, output as given, next, step}
+use Rattle.noise_gate_sample.specs.Step.{aim, output as given, next}
 use Rattle.noise_gate.proofs.samples.run.Given as goal
 
 abbrev pub invariant-loop-i : goal.invariant-loop-i
