@@ -1,4 +1,6 @@
 // The clipper, hard and triode: a block with a kind and a drive. It keeps no state.
+#![tactic(auto)]
+
 mod sample;
 mod table;
 mod triode;

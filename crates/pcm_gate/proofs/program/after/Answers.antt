@@ -6,11 +6,7 @@ use Rattle.noise_gate.specs.declared.Gate.{Gate}
 use Rattle.noise_gate.specs.declared.Adjustment.{Adjustment}
 use Rattle.noise_gate.specs.declared.Adjustment.TheVariants.{Done, Held, Refused}
 use borrow.Author.Rules.{rules}
-use Rattle.pcm_gate.proofs.program.after.Statement.{statement}
-use Rattle.pcm_gate.proofs.program.after.Tie as tie
-
-set-typed-requires : tie.Need-set-typed-requires
-set-typed-requires c κs = search rules
+use Rattle.pcm_gate.proofs.program.after.Goals as goal
 
 -- what is told of a setting holds the gate after it
 state-set : (g : Gate) (a : Adjustment) {t : Told Gate} → told_set g a ≡ t → g ≡ t.state
@@ -18,8 +14,5 @@ state-set g Done e = ap (λ (w : Told Gate). w.state) e
 state-set g (Held h) e = ap (λ (w : Told Gate). w.state) e
 state-set g (Refused r) e = ap (λ (w : Told Gate). w.state) e
 
-returns : tie.Need-returns
-returns c = state-set _ c.before.set_typed.result.answer c.before.set_typed.ensures
-
-pub after-spec : {M : Type 1} → statement M
-after-spec = tie.close (tie.spec set-typed-requires returns)
+pub returns : goal.returns
+returns c = state-set _ c.set_typed-answered.result.answer c.set_typed-answered.ensures
