@@ -1,4 +1,6 @@
 // What every stage answers and checks: refusals by document 01's numbers, and the tests behind them.
+#![tactic(auto)]
+
 mod crossing;
 
 ghost use Rattle.std.specs.Prelude.{◌&&◌, ◌≡◌, eqb, leb};
@@ -13,7 +15,7 @@ pub use float::settled32;
 
 // Document 01's answers 1 to 9. The one that carries something stands last, out of their order: so a compiled
 // `number` is a table, which is looked up only where there is a refusal, and no branch hangs on one that isn't.
-#[derive(Drop)]
+#[derive(Clone, Copy)]
 pub enum Refusal {
     NoSetting,
     NoBand,
@@ -28,30 +30,30 @@ pub enum Refusal {
 }
 
 #[repr(C)]
-#[derive(Drop)]
+#[derive(Clone, Copy)]
 pub struct Decibels(pub f32);
 
 #[repr(C)]
-#[derive(Drop)]
+#[derive(Clone, Copy)]
 pub struct Factor(pub f32);
 
 // A time in milliseconds, and its smoothing number.
 #[repr(C)]
-#[derive(Drop)]
+#[derive(Clone, Copy)]
 pub struct Timed {
     pub ms: f32,
     pub number: f32,
 }
 
 // What making and reset answer, and a setting and a block where they have no more to say.
-#[derive(Drop)]
+#[derive(Clone, Copy)]
 pub enum Answer {
     Done,
     Refused(Refusal),
 }
 
 // What reading answers, and a lone step: a value.
-#[derive(Drop)]
+#[derive(Clone, Copy)]
 pub enum Reading {
     Done(f32),
     Refused(Refusal),
@@ -61,7 +63,7 @@ pub enum Reading {
 // first sample that is refused, the count of samples aimed open, of a hold that was set its samples and the
 // word of their truncation, and of a gate's block the quiet count; each +0 or 0 where the call has none.
 #[repr(C)]
-#[derive(Drop)]
+#[derive(Clone, Copy)]
 pub struct Numbered {
     pub number: u32,
     pub value: f32,
@@ -73,7 +75,7 @@ pub struct Numbered {
 }
 
 // What the checks of a block find.
-#[derive(Drop)]
+#[derive(Clone, Copy)]
 pub enum Check {
     Accepted,
     Refused(Refusal),

@@ -75,7 +75,7 @@ pub fn least(a: u64, b: u64) -> u64
 }
 
 // The number m * 2 ^ k.
-#[derive(Drop)]
+#[derive(Clone, Copy)]
 pub struct Part {
     pub m: u64,
     pub k: u64,

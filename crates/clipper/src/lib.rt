@@ -1,4 +1,6 @@
 // The clipper, hard and triode: a block with a kind and a drive. It keeps no state.
+#![tactic(auto)]
+
 mod sample;
 mod table;
 mod triode;
@@ -9,7 +11,7 @@ ghost use Rattle.clipper.specs.Block as blocks;
 
 use answer::{Answer, Refusal};
 
-#[derive(Drop)]
+#[derive(Clone, Copy)]
 pub enum Kind {
     Hard,
     Triode,

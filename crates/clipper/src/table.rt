@@ -262,7 +262,7 @@ const TABLE: [f32; 256] = [
 ];
 
 // The four entries that a lookup reads.
-#[derive(Drop)]
+#[derive(Clone, Copy)]
 pub struct Around {
     pub p0: f32,
     pub p1: f32,

@@ -6,20 +6,20 @@ ghost use Rattle.common.specs.Blocker as blocker;
 use answer::{Answer, Reading, Refusal};
 
 #[repr(C)]
-#[derive(Drop)]
+#[derive(Clone, Copy)]
 pub struct Blocker {
     pub c: f32,
     pub x1: f32,
     pub y1: f32,
 }
 
-#[derive(Drop)]
+#[derive(Clone, Copy)]
 pub struct Answered {
     pub blocker: Blocker,
     pub answer: Answer,
 }
 
-#[derive(Drop)]
+#[derive(Clone, Copy)]
 pub struct Stepped {
     pub blocker: Blocker,
     pub output: Reading,

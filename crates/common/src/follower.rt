@@ -7,20 +7,20 @@ use crate::toward;
 use answer::{Answer, Reading, Refusal};
 
 #[repr(C)]
-#[derive(Drop)]
+#[derive(Clone, Copy)]
 pub struct Follower {
     pub attack: f32,
     pub release: f32,
     pub level: f32,
 }
 
-#[derive(Drop)]
+#[derive(Clone, Copy)]
 pub struct Answered {
     pub follower: Follower,
     pub answer: Answer,
 }
 
-#[derive(Drop)]
+#[derive(Clone, Copy)]
 pub struct Stepped {
     pub follower: Follower,
     pub output: Reading,

@@ -4,7 +4,7 @@ ghost use Rattle.std.specs.Prelude.{◌≡◌};
 ghost use Rattle.common.specs.Frequencies as frequencies;
 
 // In the order of their numbers, from 0.
-#[derive(Drop)]
+#[derive(Clone, Copy)]
 pub enum Model {
     Modern,
     British,
@@ -12,14 +12,14 @@ pub enum Model {
     Flat,
 }
 
-#[derive(Drop)]
+#[derive(Clone, Copy)]
 pub struct Corners {
     pub bass: f32,
     pub treble: f32,
     pub presence: f32,
 }
 
-#[derive(Drop)]
+#[derive(Clone, Copy)]
 pub enum Centre {
     Hertz(f64),
     Nothing,

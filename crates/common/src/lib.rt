@@ -1,5 +1,7 @@
 // The follower and the DC blocker: steps over any bits for the stages to use, and each offered alone,
 // one sample at a time. Document 01's frequencies in constant tables.
+#![tactic(auto)]
+
 pub mod blocker;
 pub mod follower;
 pub mod frequencies;

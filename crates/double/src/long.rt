@@ -2,7 +2,7 @@
 ghost use Rattle.std.specs.Prelude.{◌≡◌, ◌+◌, ◌-◌, ◌*◌, ◌^◌, ◌<◌, ◌≤◌, ◌⊎◌};
 ghost use Rattle.rounding.specs.Steps as Steps;
 
-#[derive(Drop)]
+#[derive(Clone, Copy)]
 pub struct Long {
     pub hi: u64,
     pub lo: u64,

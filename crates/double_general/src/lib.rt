@@ -75,7 +75,7 @@ fn made(s: bool, hi: u64, lo: u64, e: u64) -> f64
 }
 
 // The two terms, the one with the smaller exponent moved to the other's.
-#[derive(Drop)]
+#[derive(Clone, Copy)]
 struct Terms {
     uh: u64,
     ul: u64,

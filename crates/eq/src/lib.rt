@@ -9,13 +9,13 @@ use eq_bands::{Registers, Settings};
 
 // What a host sets, and what a sample moves.
 #[repr(C)]
-#[derive(Drop)]
+#[derive(Clone, Copy)]
 pub struct Equaliser {
     pub settings: Settings,
     pub registers: Registers,
 }
 
-#[derive(Drop)]
+#[derive(Clone, Copy)]
 pub struct Answered {
     pub equaliser: Equaliser,
     pub answer: Answer,

@@ -1,4 +1,6 @@
 // A band of the equaliser: what a host sets, its name, its step; and sixteen in a row.
+#![tactic(auto)]
+
 mod bands;
 mod names;
 mod row;
@@ -10,7 +12,7 @@ pub use row::through;
 
 // A band's worked numbers.
 #[repr(C)]
-#[derive(Drop)]
+#[derive(Clone, Copy)]
 pub struct Numbers {
     pub b0: f64,
     pub b1: f64,
@@ -20,7 +22,7 @@ pub struct Numbers {
 }
 
 #[repr(C)]
-#[derive(Drop)]
+#[derive(Clone, Copy)]
 pub struct Band {
     pub value: Decibels,
     pub numbers: Numbers,
@@ -28,7 +30,7 @@ pub struct Band {
 
 // What a host sets.
 #[repr(C)]
-#[derive(Drop)]
+#[derive(Clone, Copy)]
 pub struct Settings {
     pub rate: f32,
     pub bands: [Band; 16],
@@ -36,7 +38,7 @@ pub struct Settings {
 
 // A band's registers.
 #[repr(C)]
-#[derive(Drop)]
+#[derive(Clone, Copy)]
 pub struct Delay {
     pub x1: f64,
     pub x2: f64,
@@ -46,27 +48,27 @@ pub struct Delay {
 
 // What a sample moves.
 #[repr(C)]
-#[derive(Drop)]
+#[derive(Clone, Copy)]
 pub struct Registers {
     pub bands: [Delay; 16],
 }
 
 // What a sample leaves in a band, and gives.
-#[derive(Drop)]
+#[derive(Clone, Copy)]
 pub struct Stepped {
     pub delay: Delay,
     pub output: f64,
 }
 
 // The band that a name says.
-#[derive(Drop)]
+#[derive(Clone, Copy)]
 pub enum Index {
     At(usize),
     Unknown,
 }
 
 // What a name and the numbers beside it ask for.
-#[derive(Drop)]
+#[derive(Clone, Copy)]
 pub enum Setting {
     Band(usize, Decibels, Numbers),
     Unknown,

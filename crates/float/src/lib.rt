@@ -18,13 +18,13 @@ pub use wide::wide32;
 
 // What truncation says of the number that it took: that it is the whole number given back, or that something was
 // thrown away.
-#[derive(Drop)]
+#[derive(Clone, Copy)]
 pub enum Exactness {
     Exact,
     Cut,
 }
 
-#[derive(Drop)]
+#[derive(Clone, Copy)]
 pub struct Truncation {
     pub whole: u64,
     pub word: Exactness,

@@ -16,7 +16,7 @@ use noise_gate::{Gate, Passage};
 
 // The gate after a block, the samples so far and how many of them were aimed open at, and what comes
 // next.
-#[derive(Drop)]
+#[derive(Clone, Copy)]
 struct Turn {
     gate: Gate,
     samples: u64,
@@ -24,7 +24,7 @@ struct Turn {
     next: Next,
 }
 
-#[derive(Drop)]
+#[derive(Clone, Copy)]
 enum Next {
     More,
     End,
@@ -32,7 +32,7 @@ enum Next {
 }
 
 // How many bytes a buffer was filled with, and what comes next.
-#[derive(Drop)]
+#[derive(Clone, Copy)]
 struct Filled {
     count: usize,
     next: Next,

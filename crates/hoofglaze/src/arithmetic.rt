@@ -44,7 +44,7 @@ pub extern "C" fn hoofglaze_size64(x: f64) -> f64
 }
 
 #[repr(C)]
-#[derive(Drop)]
+#[derive(Clone, Copy)]
 pub struct TruncationNumbered {
     pub whole: u64,
     pub word: u32,

@@ -9,7 +9,7 @@ use eq::{Answered, Equaliser};
 use eq_bands::Numbers;
 
 #[repr(C)]
-#[derive(Drop)]
+#[derive(Clone, Copy)]
 pub struct EqAnswered {
     pub equaliser: Equaliser,
     pub answer: Numbered,

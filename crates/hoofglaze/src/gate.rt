@@ -11,7 +11,7 @@ use answer::{Decibels, Factor, Numbered};
 use noise_gate::{Adjusted, Adjustment, Answered, Before, Gate, Passage, Passed, Ran, Setting};
 
 #[repr(C)]
-#[derive(Drop)]
+#[derive(Clone, Copy)]
 pub struct GateAnswered {
     pub gate: Gate,
     pub answer: Numbered,

@@ -9,7 +9,7 @@ use answer::{Decibels, Factor, Numbered};
 use leveller::{Answered, Leveller, Setting};
 
 #[repr(C)]
-#[derive(Drop)]
+#[derive(Clone, Copy)]
 pub struct LevellerAnswered {
     pub leveller: Leveller,
     pub answer: Numbered,

@@ -9,14 +9,14 @@ use common::blocker::Blocker;
 use common::follower::Follower;
 
 #[repr(C)]
-#[derive(Drop)]
+#[derive(Clone, Copy)]
 pub struct FollowerAnswered {
     pub follower: Follower,
     pub answer: Numbered,
 }
 
 #[repr(C)]
-#[derive(Drop)]
+#[derive(Clone, Copy)]
 pub struct BlockerAnswered {
     pub blocker: Blocker,
     pub answer: Numbered,

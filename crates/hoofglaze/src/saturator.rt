@@ -11,7 +11,7 @@ use answer::Numbered;
 use multiband_saturator::{Band, Crossover, Frequency, Saturator, Setting};
 
 #[repr(C)]
-#[derive(Drop)]
+#[derive(Clone, Copy)]
 pub struct SaturatorAnswered {
     pub saturator: Saturator,
     pub answer: Numbered,

@@ -10,7 +10,7 @@ use answer::{Factor, Numbered};
 use tonestack::{Answered, Model, Setting, Tone};
 
 #[repr(C)]
-#[derive(Drop)]
+#[derive(Clone, Copy)]
 pub struct ToneAnswered {
     pub tone: Tone,
     pub answer: Numbered,

@@ -11,14 +11,14 @@ use leveller_settings::Settings;
 
 // What a host sets, and what a sample moves.
 #[repr(C)]
-#[derive(Drop)]
+#[derive(Clone, Copy)]
 pub struct Leveller {
     pub settings: Settings,
     pub registers: Registers,
 }
 
 // The leveller after a call, and what making, setting, reset and a block answer.
-#[derive(Drop)]
+#[derive(Clone, Copy)]
 pub struct Answered {
     pub leveller: Leveller,
     pub answer: Answer,

@@ -6,13 +6,13 @@ use leveller_settings::Settings;
 
 // What a sample moves.
 #[repr(C)]
-#[derive(Drop)]
+#[derive(Clone, Copy)]
 pub struct Registers {
     pub level: f32,
 }
 
 // What a sample leaves and gives.
-#[derive(Drop)]
+#[derive(Clone, Copy)]
 pub struct Stepped {
     pub registers: Registers,
     pub output: f32,

@@ -9,7 +9,7 @@ pub use ranges::{in_its_range, settable, with_setting, worked};
 // What a host sets. `factor` is the threshold's; attack and release are the follower's, each with its smoothing
 // number.
 #[repr(C)]
-#[derive(Drop)]
+#[derive(Clone, Copy)]
 pub struct Settings {
     pub rate: f32,
     pub threshold: Decibels,
@@ -21,7 +21,7 @@ pub struct Settings {
 }
 
 // A setting: its value, and the worked number that it takes.
-#[derive(Drop)]
+#[derive(Clone, Copy)]
 pub enum Setting {
     Threshold(Decibels, Factor),
     Ratio(f32),
@@ -31,7 +31,7 @@ pub enum Setting {
 }
 
 // What a name and the numbers beside it ask for.
-#[derive(Drop)]
+#[derive(Clone, Copy)]
 pub enum Named {
     Known(Setting),
     Unknown,

@@ -10,14 +10,14 @@ pub use multiband_saturator_settings::{Band, Crossover, Frequency, Setting};
 
 // What a host sets, and what a sample moves.
 #[repr(C)]
-#[derive(Drop)]
+#[derive(Clone, Copy)]
 pub struct Saturator {
     pub settings: Settings,
     pub registers: Registers,
 }
 
 // The saturator after a call, and what making, setting, reset and a block answer.
-#[derive(Drop)]
+#[derive(Clone, Copy)]
 pub struct Answered {
     pub saturator: Saturator,
     pub answer: Answer,

@@ -9,7 +9,7 @@ use multiband_saturator_settings::{Bands, Settings};
 
 // One of a filter's two biquads: its last two inputs and outputs.
 #[repr(C)]
-#[derive(Drop)]
+#[derive(Clone, Copy)]
 pub struct Biquad {
     pub x1: f32,
     pub x2: f32,
@@ -19,7 +19,7 @@ pub struct Biquad {
 
 // The Rust's LR4Filter: one biquad after the other. Its latest output is the second one's y1.
 #[repr(C)]
-#[derive(Drop)]
+#[derive(Clone, Copy)]
 pub struct Filter {
     pub first: Biquad,
     pub second: Biquad,
@@ -27,7 +27,7 @@ pub struct Filter {
 
 // A low-pass and a high-pass filter of one input at one frequency.
 #[repr(C)]
-#[derive(Drop)]
+#[derive(Clone, Copy)]
 pub struct Split {
     pub lp: Filter,
     pub hp: Filter,
@@ -35,7 +35,7 @@ pub struct Split {
 
 // What a band keeps, the Rust's low_env and low_dc: the follower's level, the DC blocker's last input and output.
 #[repr(C)]
-#[derive(Drop)]
+#[derive(Clone, Copy)]
 pub struct BandRegisters {
     pub level: f32,
     pub x1: f32,
@@ -45,7 +45,7 @@ pub struct BandRegisters {
 // What a sample moves. The low/mid split is the Rust's low_lp and mid_hp_low, the mid/high split its
 // mid_lp_high and high_hp, the all-pass its low_allpass_lp and low_allpass_hp; then the three bands.
 #[repr(C)]
-#[derive(Drop)]
+#[derive(Clone, Copy)]
 pub struct Registers {
     pub lowmid: Split,
     pub midhigh: Split,
@@ -56,7 +56,7 @@ pub struct Registers {
 }
 
 // What a sample leaves and gives.
-#[derive(Drop)]
+#[derive(Clone, Copy)]
 pub struct Stepped {
     pub registers: Registers,
     pub output: f32,

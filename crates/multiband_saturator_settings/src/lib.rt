@@ -7,7 +7,7 @@ pub use ranges::{in_its_range, lent, settable, with_setting, worked};
 
 // A filter's five worked numbers.
 #[repr(C)]
-#[derive(Drop)]
+#[derive(Clone, Copy)]
 pub struct Numbers {
     pub b0: f32,
     pub b1: f32,
@@ -18,7 +18,7 @@ pub struct Numbers {
 
 // What a frequency carries: the numbers of the low-pass and of the high-pass filters at it.
 #[repr(C)]
-#[derive(Drop)]
+#[derive(Clone, Copy)]
 pub struct Crossover {
     pub lowpass: Numbers,
     pub highpass: Numbers,
@@ -26,7 +26,7 @@ pub struct Crossover {
 
 // A number for each band.
 #[repr(C)]
-#[derive(Drop)]
+#[derive(Clone, Copy)]
 pub struct Bands {
     pub low: f32,
     pub mid: f32,
@@ -35,7 +35,7 @@ pub struct Bands {
 
 // Where the bands meet, in Hz.
 #[repr(C)]
-#[derive(Drop)]
+#[derive(Clone, Copy)]
 pub struct Frequencies {
     pub low: f32,
     pub high: f32,
@@ -44,7 +44,7 @@ pub struct Frequencies {
 // What a host sets. `low` and `high` are what the two frequencies carry, kept once for all filters;
 // `attack` and `release` are the followers' numbers and `blocker` the DC blockers', shared by the bands.
 #[repr(C)]
-#[derive(Drop)]
+#[derive(Clone, Copy)]
 pub struct Settings {
     pub rate: f32,
     pub drives: Bands,
@@ -58,7 +58,7 @@ pub struct Settings {
 }
 
 // Which band a drive or a level is of.
-#[derive(Drop)]
+#[derive(Clone, Copy)]
 pub enum Band {
     Low,
     Mid,
@@ -66,14 +66,14 @@ pub enum Band {
 }
 
 // Which of the two frequencies where bands meet.
-#[derive(Drop)]
+#[derive(Clone, Copy)]
 pub enum Frequency {
     Low,
     High,
 }
 
 // A setting: what it is of, its value, and the worked numbers that it takes.
-#[derive(Drop)]
+#[derive(Clone, Copy)]
 pub enum Setting {
     Drive(Band, f32),
     Level(Band, f32),
@@ -81,7 +81,7 @@ pub enum Setting {
 }
 
 // What a name and the numbers beside it ask for.
-#[derive(Drop)]
+#[derive(Clone, Copy)]
 pub enum Named {
     Known(Setting),
     Unknown,

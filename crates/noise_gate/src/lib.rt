@@ -1,4 +1,6 @@
 // The noise gate: its state, and what its calls answer.
+#![tactic(auto)]
+
 mod bounds;
 mod calls;
 mod samples;
@@ -13,7 +15,7 @@ use noise_gate_settings::Settings;
 
 // What a host sets, and what a sample moves.
 #[repr(C)]
-#[derive(Drop)]
+#[derive(Clone, Copy)]
 pub struct Gate {
     pub settings: Settings,
     pub registers: Registers,
@@ -21,7 +23,7 @@ pub struct Gate {
 
 // What a sample moved before gates had a quiet count.
 #[repr(C)]
-#[derive(Drop)]
+#[derive(Clone, Copy)]
 pub struct Uncounted {
     pub level: f32,
     pub state: f32,
@@ -30,47 +32,47 @@ pub struct Uncounted {
 
 // A gate that a host kept from then.
 #[repr(C)]
-#[derive(Drop)]
+#[derive(Clone, Copy)]
 pub struct Before {
     pub settings: Settings,
     pub registers: Uncounted,
 }
 
 // A done block: how many of its samples were aimed open, and the quiet count after the last.
-#[derive(Drop)]
+#[derive(Clone, Copy)]
 pub struct Passed {
     pub count: usize,
     pub quiet: u32,
 }
 
 // What a block answers.
-#[derive(Drop)]
+#[derive(Clone, Copy)]
 pub enum Passage {
     Done(Passed),
     Refused(Refusal),
 }
 
 // What a setting answers: of the hold, its samples and the word of their truncation.
-#[derive(Drop)]
+#[derive(Clone, Copy)]
 pub enum Adjustment {
     Done,
     Held(Truncation),
     Refused(Refusal),
 }
 
-#[derive(Drop)]
+#[derive(Clone, Copy)]
 pub struct Answered {
     pub gate: Gate,
     pub answer: Answer,
 }
 
-#[derive(Drop)]
+#[derive(Clone, Copy)]
 pub struct Adjusted {
     pub gate: Gate,
     pub answer: Adjustment,
 }
 
-#[derive(Drop)]
+#[derive(Clone, Copy)]
 pub struct Ran {
     pub gate: Gate,
     pub answer: Passage,

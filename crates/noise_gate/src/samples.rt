@@ -6,7 +6,7 @@ use noise_gate_sample::Registers;
 use noise_gate_settings::Settings;
 
 // What the samples leave, and how many of them were aimed open.
-#[derive(Drop)]
+#[derive(Clone, Copy)]
 pub struct Moved {
     pub registers: Registers,
     pub count: usize,

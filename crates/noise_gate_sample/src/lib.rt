@@ -1,4 +1,6 @@
 // One sample of the noise gate, over any bits: what it moves and what it gives.
+#![tactic(auto)]
+
 ghost use Rattle.std.specs.Prelude.{suc, ◌-◌, min, ltb, cond, ◌||◌, ◌≡◌};
 ghost use Rattle.noise_gate_sample.specs.Figures.{longest_quiet};
 ghost use Rattle.noise_gate_sample.specs.Step as Step;
@@ -8,7 +10,7 @@ use noise_gate_settings::Settings;
 
 // What a sample moves.
 #[repr(C)]
-#[derive(Drop)]
+#[derive(Clone, Copy)]
 pub struct Registers {
     pub level: f32,
     pub state: f32,
@@ -17,7 +19,7 @@ pub struct Registers {
 }
 
 // What a sample leaves and gives, and whether the gate aims open at it.
-#[derive(Drop)]
+#[derive(Clone, Copy)]
 pub struct Stepped {
     pub registers: Registers,
     pub output: f32,

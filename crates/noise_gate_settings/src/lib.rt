@@ -1,4 +1,6 @@
 // The noise gate's settings: what each may be, what it changes, and its name.
+#![tactic(auto)]
+
 mod names;
 mod ranges;
 
@@ -9,7 +11,7 @@ pub use ranges::{in_its_range, settable, with_setting, worked};
 // What a host sets. `factor` is the threshold's, `hold` is in milliseconds; `rising` and `falling` are the
 // follower's smoothing numbers.
 #[repr(C)]
-#[derive(Drop)]
+#[derive(Clone, Copy)]
 pub struct Settings {
     pub rate: f32,
     pub threshold: Decibels,
@@ -23,7 +25,7 @@ pub struct Settings {
 }
 
 // A setting: its value, and the worked number that it takes.
-#[derive(Drop)]
+#[derive(Clone, Copy)]
 pub enum Setting {
     Threshold(Decibels, Factor),
     Ratio(f32),
@@ -33,7 +35,7 @@ pub enum Setting {
 }
 
 // What a name and the numbers beside it ask for.
-#[derive(Drop)]
+#[derive(Clone, Copy)]
 pub enum Named {
     Known(Setting),
     Unknown,

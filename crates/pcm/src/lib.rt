@@ -1,4 +1,6 @@
 // Signed 16-bit samples: read from a word of two bytes as an f32, and written as one.
+#![tactic(auto)]
+
 ghost use Rattle.std.specs.Prelude.{◌≤◌, false, ◌≡◌};
 ghost use Rattle.std.specs.Float.Ieee.{lt};
 ghost use Rattle.answer.specs.Figures.{nought};

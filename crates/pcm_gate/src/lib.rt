@@ -1,4 +1,6 @@
 // The noise gate over signed 16-bit samples, of any number, and the gate of document 01's program.
+#![tactic(auto)]
+
 mod program;
 mod samples;
 

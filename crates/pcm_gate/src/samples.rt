@@ -7,7 +7,7 @@ use noise_gate_sample::Registers;
 use noise_gate_settings::Settings;
 
 // What a sample leaves and the word that it gives, and whether the gate aims open at it.
-#[derive(Drop)]
+#[derive(Clone, Copy)]
 struct Turned {
     registers: Registers,
     word: u16,
@@ -15,7 +15,7 @@ struct Turned {
 }
 
 // What the samples leave, and how many of them were aimed open.
-#[derive(Drop)]
+#[derive(Clone, Copy)]
 pub struct Moved {
     pub registers: Registers,
     pub count: usize,

@@ -80,7 +80,7 @@ fn made(s: bool, n: u64, e: u64) -> f32
 }
 
 // The two terms, the one with the smaller exponent moved to the other's.
-#[derive(Drop)]
+#[derive(Clone, Copy)]
 struct Terms {
     u: u64,
     v: u64,

@@ -8,14 +8,14 @@ pub use tonestack_sample::{Model, Registers, Setting, Settings};
 
 // What a host sets, and what a sample moves.
 #[repr(C)]
-#[derive(Drop)]
+#[derive(Clone, Copy)]
 pub struct Tone {
     pub settings: Settings,
     pub registers: Registers,
 }
 
 // The tone stack after a call, and what making, setting, reset and a block answer.
-#[derive(Drop)]
+#[derive(Clone, Copy)]
 pub struct Answered {
     pub tone: Tone,
     pub answer: Answer,

@@ -16,7 +16,7 @@ pub use step::step_with;
 
 // What a host sets. `model` is 0 to 3: Modern, British, American, Flat; `factor` is presence's.
 #[repr(C)]
-#[derive(Drop)]
+#[derive(Clone, Copy)]
 pub struct Settings {
     pub rate: f32,
     pub model: u32,
@@ -28,7 +28,7 @@ pub struct Settings {
 }
 
 // A setting: its value, and the worked number that presence takes.
-#[derive(Drop)]
+#[derive(Clone, Copy)]
 pub enum Setting {
     Bass(f32),
     Mid(f32),
@@ -37,7 +37,7 @@ pub enum Setting {
 }
 
 // What a name and the numbers beside it ask for.
-#[derive(Drop)]
+#[derive(Clone, Copy)]
 pub enum Named {
     Known(Setting),
     Unknown,
@@ -45,7 +45,7 @@ pub enum Named {
 
 // What a sample moves: the four one-pole filters.
 #[repr(C)]
-#[derive(Drop)]
+#[derive(Clone, Copy)]
 pub struct Registers {
     pub dc: f32,
     pub bass: f32,
@@ -54,7 +54,7 @@ pub struct Registers {
 }
 
 // The four filters' alphas.
-#[derive(Drop)]
+#[derive(Clone, Copy)]
 pub struct Alphas {
     pub dc: f32,
     pub bass: f32,
@@ -63,7 +63,7 @@ pub struct Alphas {
 }
 
 // What a sample leaves and gives.
-#[derive(Drop)]
+#[derive(Clone, Copy)]
 pub struct Stepped {
     pub registers: Registers,
     pub output: f32,

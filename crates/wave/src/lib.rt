@@ -1,5 +1,7 @@
 // Recordings as RIFF WAVE files in a lent buffer: their rate, and where their samples lie.
 // Assumes nothing.
+#![tactic(auto)]
+
 ghost use Rattle.std.specs.Prelude.{◌≡◌, ◌+◌, ◌*◌, ◌≤◌, ◌<◌, ◌^◌, min, eqb, length};
 ghost use Rattle.wave.specs.Answers as Answers;
 ghost use Rattle.wave.specs.Reading as Reading;
@@ -9,7 +11,7 @@ use answer::{Refusal, both};
 use words::{u16_at, u32_at};
 
 // What a buffer holds: samples of 16 bits, so many bytes from a place on; or why none.
-#[derive(Drop)]
+#[derive(Clone, Copy)]
 pub enum Wave {
     Found {
         rate: u32,
@@ -20,7 +22,7 @@ pub enum Wave {
 }
 
 // Document 02's 10 to 14, and document 01's 5.
-#[derive(Drop)]
+#[derive(Clone, Copy)]
 pub enum Fault {
     NotWave,
     CutShort,
@@ -31,14 +33,14 @@ pub enum Fault {
 }
 
 // Where the chunks lead: to the head of `data`, with the rate known there, 0 where no `fmt ` came before it; or to a refusal.
-#[derive(Drop)]
+#[derive(Clone, Copy)]
 pub enum Met {
     Data { at: usize, rate: u32 },
     Refused(Fault),
 }
 
 // What one chunk leads to: that, or the next chunk.
-#[derive(Drop)]
+#[derive(Clone, Copy)]
 enum Step {
     Ends(Met),
     On { at: usize, rate: u32 },
@@ -46,7 +48,7 @@ enum Step {
 
 // An answer as it crosses to a host.
 #[repr(C)]
-#[derive(Drop)]
+#[derive(Clone, Copy)]
 pub struct Figures {
     pub number: u32,
     pub rate: u32,

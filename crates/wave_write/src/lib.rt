@@ -9,14 +9,14 @@ use answer::Refusal;
 use words::put_u32;
 
 // How many bytes were written; or why there are none.
-#[derive(Drop)]
+#[derive(Clone, Copy)]
 pub enum Written {
     Done(u32),
     Refused(Fault),
 }
 
 // Document 01's 5, and document 02's 14, 17 and 15.
-#[derive(Drop)]
+#[derive(Clone, Copy)]
 pub enum Fault {
     BadRate,
     OddData,
@@ -26,7 +26,7 @@ pub enum Fault {
 
 // An answer as it crosses to a host.
 #[repr(C)]
-#[derive(Drop)]
+#[derive(Clone, Copy)]
 pub struct Figures {
     pub number: u32,
     pub length: u32,

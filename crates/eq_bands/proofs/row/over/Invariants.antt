@@ -1,0 +1,18 @@
+-- `eq_bands::row::over` meets its contract. Assumes nothing.
+use Prim.Native.Nat.{◌-◌, ◌<◌}
+use native.Mathlib.Omega.{arith}
+use mathlib.Core.Path.{refl}
+use lib.ListN.{length}
+use lib.Ieee.{nan}
+use Rattle.fold.proofs.Block.{Upto, start, onward, ended}
+use Rattle.eq_bands.proofs.InPlace.{Ahead}
+use Rattle.eq_bands.proofs.InPlace as ahead
+use Rattle.eq_bands.specs.Biquad.{step, next, output}
+use borrow.Author.Rules.{rules}
+use Rattle.eq_bands.proofs.row.over.Given as goal
+
+abbrev pub invariant-loop-i : goal.invariant-loop-i
+invariant-loop-i l = Upto (next l.n) (output l.n) l.initial.now l.initial.samples l.initial.samples l.now l.samples l.i × Ahead l.initial.samples l.samples l.i
+
+abbrev pub decreases-loop-i : goal.decreases-loop-i
+decreases-loop-i l = length l.initial.samples - l.i

@@ -1,0 +1,18 @@
+-- `pcm_gate::samples::run` meets its contract. Assumes nothing.
+use Prim.Native.Nat.{◌-◌}
+use mathlib.Core.Logic.{⊎_elim}
+use mathlib.Core.Path.{◌≡◌}
+use native.Mathlib.Omega.{arith}
+use lib.ListN.{length, length-set}
+use Rattle.fold.specs.Fold.{more}
+use Rattle.fold.proofs.Block.{counts, skips}
+use borrow.Author.Rules.{rules}
+use Rattle.pcm_gate.specs.Pass.{next, output as given, aim}
+use Rattle.pcm_gate.proofs.Pairs.{Upto, start, onward, ended}
+use Rattle.pcm_gate.proofs.samples.run.Given as goal
+
+abbrev pub invariant-loop-i : goal.invariant-loop-i
+invariant-loop-i l = Upto (next l.s) (given l.s) (aim l.s) l.initial.now l.input l.initial.output l.now l.output l.n l.i
+
+abbrev pub decreases-loop-i : goal.decreases-loop-i
+decreases-loop-i l = length l.input - l.i
