@@ -3,11 +3,16 @@
 use Prim.Native.Nat.{ℕ}
 use mathlib.Core.Path.{◌≡◌, refl, ap}
 use mathlib.Core.List.{List, [], ◌∷◌, map}
+use lib.Ieee.{Float}
 use Rattle.fold.specs.Fold.{out_after}
 
 -- no state: a number that stays as it was
 abbrev pub stays : {X : Type 0} → ℕ → X → ℕ
 stays n x = n
+
+-- a sample as it is
+abbrev pub kept : Float → Float
+kept x = x
 
 module _ {X Y : Type 0} (f : X → Y) where
   abbrev pub alone : ℕ → X → Y

@@ -1,4 +1,6 @@
 // The equaliser: its state, and its calls.
+#![tactic(auto)]
+
 mod calls;
 mod samples;
 mod states;

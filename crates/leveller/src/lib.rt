@@ -1,4 +1,6 @@
 // The leveller for soft talkers: its state and its calls.
+#![tactic(auto)]
+
 mod bounds;
 mod calls;
 mod samples;

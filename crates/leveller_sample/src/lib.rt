@@ -1,4 +1,6 @@
 // One sample of the leveller, over any bits: what it moves and what it gives.
+#![tactic(auto)]
+
 ghost use Rattle.std.specs.Prelude.{◌≡◌};
 ghost use Rattle.leveller_sample.specs.Step as Step;
 

@@ -1,4 +1,6 @@
 // The leveller's settings: what each may be, what it changes, and its name.
+#![tactic(auto)]
+
 mod names;
 mod ranges;
 

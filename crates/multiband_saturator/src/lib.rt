@@ -1,4 +1,6 @@
 // The multiband saturator: its state and its calls.
+#![tactic(auto)]
+
 mod calls;
 mod samples;
 

@@ -1,4 +1,6 @@
 // One sample of the multiband saturator, over any bits: what it moves and what it gives.
+#![tactic(auto)]
+
 mod bands;
 mod filters;
 

@@ -1,1 +1,2 @@
 // What the record of a block says: laws only.
+#![tactic(auto)]

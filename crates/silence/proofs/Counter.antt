@@ -27,6 +27,7 @@ aims e past = loud_at e || ltb 0 (left (e ∷ past))
 
 or_l : (a b : Bool) → T a → T (a || b)
 or_l true b t = tt
+or_l false b t = absurd t
 
 or_r : (a b : Bool) → T b → T (a || b)
 or_r true b t = tt

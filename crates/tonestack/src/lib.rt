@@ -1,4 +1,6 @@
 // The tone stack: its state and its calls.
+#![tactic(auto)]
+
 mod calls;
 mod samples;
 

@@ -1,5 +1,7 @@
 // The tone stack's settings, and one sample through them: the model by its number, the four controls and
 // their names, what each may be; what a sample moves and what it gives.
+#![tactic(auto)]
+
 mod alpha;
 mod models;
 mod names;

@@ -136,7 +136,7 @@ module _ (s : List ℕ) (small : Bytes s) where
     longer {at} {rate} h g (format f z b r k) rest =
         absurd (omega (arith, h, eqb-true rate 0 (both_hold (is_named s at (bytes "fmt ")) (eqb rate 0) f).1))
 
-    chain : {at rate to last : ℕ} → 0 < rate → Trail s end to last at rate → Chain s at rate to last
+    chain : {to last at rate : ℕ} → 0 < rate → Trail s end to last at rate → Chain s at rate to last
     chain {at} h here = record { chunks = []; is = refl; ends = omega arith; all = none; same-rate = refl }
     chain h (on g t) = longer h g g.kind (λ l. chain l t)
 
@@ -164,7 +164,7 @@ module _ (s : List ℕ) (small : Bytes s) where
           later = rw r.same-rate r.all;
         }
 
-    parts : {at rate to last : ℕ} → rate ≡ 0 → 0 < last → Trail s end to last at rate → Parts s at to last
+    parts : {to last at rate : ℕ} → rate ≡ 0 → 0 < last → Trail s end to last at rate → Parts s at to last
     parts o h here = absurd (omega (arith, o, h))
     parts o h (on g t) = begun o h g g.kind (λ l. parts l h t) (λ l. chain l t)
 

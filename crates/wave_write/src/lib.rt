@@ -1,5 +1,7 @@
 // Recordings written as RIFF WAVE files into a lent buffer.
 // Assumes nothing.
+#![tactic(auto)]
+
 ghost use Rattle.std.specs.Prelude.{◌≡◌, ◌+◌, ◌*◌, ◌≤◌, ◌<◌, ◌^◌, length};
 ghost use Rattle.answer.specs.Buffers.{over};
 ghost use Rattle.wave_write.specs.Answers as Answers;
@@ -69,9 +71,8 @@ fn put_head(rate: u32, size: u32, output: &mut [u8])
     requires { (44 ≤ length output.old) × (36 + size < 2 ^ 32) × (rate * 2 < 2 ^ 32) }
     ensures { output.new ≡ over (Writing.head rate size) output.old }
 {
-    bytes::copy(
+    output[..HEAD].copy_from_slice(
         b"RIFF\0\0\0\0WAVEfmt \x10\0\0\0\x01\0\x01\0\0\0\0\0\0\0\0\0\x02\0\x10\0data\0\0\0\0",
-        output,
     );
     put_u32(output, 4, 36 + size);
     put_u32(output, 24, rate);
@@ -84,7 +85,7 @@ fn put_file(rate: u32, samples: &[u8], output: &mut [u8])
     ensures { output.new ≡ over (Writing.file rate samples.now) output.old }
 {
     put_head(rate, samples.len() as u32, output);
-    bytes::copy(samples, &mut output[HEAD..]);
+    output[HEAD..HEAD + samples.len()].copy_from_slice(samples);
 }
 
 // Document 02's W8.

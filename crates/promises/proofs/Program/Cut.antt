@@ -1,7 +1,7 @@
 -- A gate that 9 accepts is one that it accepts after any bytes, so bytes cut at an even place give the same bytes, state and count as in one call.
 -- Assumes nothing.
 use mathlib.Core.Path.{◌≡◌, refl}
-use mathlib.Core.Bool.{Bool, true}
+use mathlib.Core.Bool.{Bool, true, false}
 use mathlib.Core.List.{List, [], ◌∷◌, ◌++◌}
 use Prim.Native.Nat.{ℕ, ◌%◌}
 use native.Mathlib.Omega.{arith}
@@ -52,6 +52,7 @@ module _ (g : Gate) (a : Settable g.settings) (b : Bounded g.registers) (input o
     where
       is_true : (t : Bool) → T t → t ≡ true
       is_true true h = refl
+      is_true false h = absurd h
 
 -- ---- two calls, one after the other
 module _ (g : Gate) (a : Settable g.settings) (b : Bounded g.registers) (xs ys ox oy : List ℕ) (even : length xs % 2 ≡ 0) (same : length xs ≡ length ox) (same₂ : length ys ≡ length oy) where

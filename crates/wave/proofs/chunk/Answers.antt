@@ -5,7 +5,6 @@ use mathlib.Core.Path.{◌≡◌, sym, ◌∙◌}
 use Rattle.wave.specs.Reading.{is_first_format, behind}
 use mathlib.Core.Bool.{true, false}
 use Rattle.wave.proofs.Cases.{none_left, torn-head, data-here, torn, first-format, passed_over}
-use borrow.Author.Rules.{rules}
 use Rattle.wave.proofs.chunk.Goals as goal
 
 pub returns-then-end-at : goal.returns-then-end-at

@@ -2,10 +2,9 @@
 use native.Mathlib.Omega.{arith}
 use Prim.Native.Nat.{◌+◌}
 use mathlib.Core.Path.{sym, ◌∙◌}
-use borrow.Author.Tests.{eq-eqb, ne_eqb, not-true, not-false}
+use borrow.Author.Tests.{eq-eqb, ne_eqb}
 use Rattle.words.proofs.Bytes.{inside32}
 use Rattle.wave.specs.Reading.{format_step}
-use borrow.Author.Rules.{rules}
 use Rattle.wave.proofs.format_step.Goals as goal
 
 pub returns-then-size-ne16 : goal.returns-then-size-ne16

@@ -3,7 +3,6 @@ use native.Mathlib.Omega.{arith}
 use mathlib.Core.Path.{◌∙◌}
 use Rattle.words.proofs.Bytes.{inside16, inside32}
 use Rattle.wave.specs.Reading.{is_format}
-use borrow.Author.Rules.{rules}
 use Rattle.wave.proofs.is_format.Goals as goal
 
 pub returns : goal.returns

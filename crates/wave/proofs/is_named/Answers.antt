@@ -5,7 +5,6 @@ use lib.ListN.{take, drop}
 use native.Mathlib.Nat.{add-sub_cancel_left}
 use Rattle.answer.specs.Names.{same}
 use Rattle.wave.specs.Reading.{is_named}
-use borrow.Author.Rules.{rules}
 use Rattle.wave.proofs.is_named.Goals as goal
 
 pub returns : goal.returns

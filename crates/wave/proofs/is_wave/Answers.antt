@@ -1,7 +1,6 @@
 -- `wave::is_wave` meets its contract. Assumes nothing.
 use borrow.Author.Tests.{le-leb, lt-leb}
 use Rattle.wave.specs.Reading.{is_wave}
-use borrow.Author.Rules.{rules}
 use Rattle.wave.proofs.is_wave.Goals as goal
 
 pub returns-then-s-lt-RIFF_HEAD : goal.returns-then-s-lt-RIFF_HEAD

@@ -1,11 +1,10 @@
 -- `wave::read` meets its contract. Assumes nothing.
 use native.Mathlib.Omega.{arith}
 use mathlib.Core.Path.{sym, ◌∙◌, ap}
-use borrow.Author.Tests.{le-leb, lt-leb, not-true, not-false}
+use borrow.Author.Tests.{le-leb, lt-leb}
 use Rattle.wave.specs.Steps.{met_by}
 use Rattle.wave.specs.Reading.{walk, read}
 use Rattle.wave.proofs.Moves.{long, head-inside}
-use borrow.Author.Rules.{rules}
 use Rattle.wave.proofs.read.Goals as goal
 
 pub returns-then-not-is_wave : goal.returns-then-not-is_wave

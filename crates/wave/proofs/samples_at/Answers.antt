@@ -3,7 +3,6 @@ use Prim.Native.Nat.{◌+◌, ◌≤◌, ◌<◌}
 use native.Mathlib.Omega.{arith}
 use borrow.Author.Tests.{lt-ltb, le-ltb, le-leb, lt-leb, eq-eqb, ne_eqb}
 use Rattle.wave.specs.Reading.{samples_at}
-use borrow.Author.Rules.{rules}
 use Rattle.wave.proofs.samples_at.Goals as goal
 
 pub returns-then-end-place : goal.returns-then-end-place

@@ -3,7 +3,6 @@ use Prim.Native.Nat.{◌+◌}
 use native.Mathlib.Omega.{arith}
 use mathlib.Core.Path.{◌∙◌}
 use Rattle.words.proofs.Bytes.{inside32}
-use borrow.Author.Rules.{rules}
 use Rattle.wave.proofs.size_at.Goals as goal
 
 pub returns : goal.returns

@@ -1,7 +1,6 @@
 -- `wave::told` meets its contract. Assumes nothing.
 use mathlib.Core.Path.{sym, ap}
 use Rattle.wave.specs.Answers.{told}
-use borrow.Author.Rules.{rules}
 use Rattle.wave.proofs.told.Goals as goal
 
 pub returns-in-Found : goal.returns-in-Found

@@ -1,11 +1,9 @@
 -- `wave::walk` meets its contract: whatever was walked, the answer is that of the rest. Assumes nothing.
-use Prim.Native.Nat.{◌-◌}
 use native.Mathlib.Omega.{arith}
 use mathlib.Core.Path.{refl, sym, ◌∙◌, ap}
-use borrow.Author.Rules.{rules}
 use Rattle.wave.specs.Steps.{stepped}
 use Rattle.wave.specs.Reading.{walk}
-use Rattle.wave.proofs.Budget.{Left, all, last, onward, ahead}
+use Rattle.wave.proofs.Budget.{all, last, onward, ahead}
 use Rattle.wave.proofs.walk.Goals as goal
 
 pub loop-m-init : goal.loop-m-init

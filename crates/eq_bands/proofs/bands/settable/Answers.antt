@@ -1,9 +1,7 @@
 -- `eq_bands::bands::settable` meets its contract. Assumes nothing.
-use Prim.Native.Nat.{◌-◌}
-use lib.ListN.{length-map}
 use Rattle.eq_bands.specs.Bands.{settable}
 use Rattle.eq_bands.proofs.Loop.{nearer, next_fits, band-place}
-use Rattle.eq_bands.proofs.EachBand.{Upto, start, onward, ended}
+use Rattle.eq_bands.proofs.EachBand.{start, onward, ended}
 use Rattle.eq_bands.proofs.bands.settable.Goals as goal
 
 pub loop-i-init : goal.loop-i-init
@@ -23,11 +21,11 @@ loop-i-smaller c = nearer c.loop-i-test.true
 
 pub loop-i-preserved : goal.loop-i-preserved
 loop-i-preserved c =
-    let sixteen = simp length-map at c.well_formed.0.1.1.1.0.1.0.1 in
+    let sixteen = c.well_formed.0.1.1.1.0.1.0.1 in
     rw c.band_settable-all.ensures (onward c.loop-i.invariant sixteen _ c.loop-i-test.true)
 
 pub returns : goal.returns
 unfolding settable
 returns c =
-    let sixteen = simp length-map at c.well_formed.0.1.1.1.0.1.0.1 in
+    let sixteen = c.well_formed.0.1.1.1.0.1.0.1 in
     rw (← c.is_rate-all.ensures) (ended c.loop-i.invariant sixteen c.loop-i-test.false)

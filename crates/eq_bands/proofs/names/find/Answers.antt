@@ -1,7 +1,6 @@
 -- `eq_bands::names::find` meets its contract. Assumes nothing.
 use mathlib.Core.Path.{sym, ◌∙◌}
 use Rattle.eq_bands.specs.Names.{named, setting_at}
-use borrow.Author.Rules.{rules}
 use Rattle.eq_bands.proofs.names.find.Goals as goal
 
 pub returns-in_default : goal.returns-in_default

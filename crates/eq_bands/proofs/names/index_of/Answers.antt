@@ -2,9 +2,7 @@
 use native.Mathlib.Omega.{arith}
 use mathlib.Core.Path.{sym, ◌∙◌}
 use lib.ListN.{length-take}
-use borrow.Author.Tests.{not-true, not-false}
 use Rattle.eq_bands.proofs.Prefix.{too_short, other, plus, plain}
-use borrow.Author.Rules.{rules}
 use Rattle.eq_bands.proofs.names.index_of.Goals as goal
 
 pub returns-then-name-lt6 : goal.returns-then-name-lt6
@@ -21,7 +19,7 @@ bounds-name-5 c = c.if-name-lt6.false
 
 pub returns-then-name-eq43 : goal.returns-then-name-eq43
 returns-then-name-eq43 c =
-    c.number_of_lem.ensures ∙ sym (plus _ c.if-name-lt6.false (sym c.same.ensures ∙ c.if-not-same.false) c.if-name-eq43.true)
+    c.number_of.ensures ∙ sym (plus _ c.if-name-lt6.false (sym c.same.ensures ∙ c.if-not-same.false) c.if-name-eq43.true)
 
 pub returns : goal.returns
 returns c =

@@ -1,10 +1,7 @@
 -- `eq_bands::names::number_of` meets its contract. Assumes nothing.
 use Prim.Native.Nat.{◌-◌}
-use mathlib.Core.Path.{sym}
 use lib.ListN.{length}
-use Rattle.eq_bands.proofs.Loop.{nearer}
-use Rattle.eq_bands.proofs.Digits.{Upto, start, nothing, digit, no_digit, too_large, value-fits, value-most, room, room-before, no_room, onward, ended}
-use borrow.Author.Rules.{rules}
+use Rattle.eq_bands.proofs.Digits.{Upto}
 use Rattle.eq_bands.proofs.names.number_of.Given as goal
 
 abbrev pub invariant-loop-i : goal.invariant-loop-i

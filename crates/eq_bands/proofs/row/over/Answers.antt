@@ -1,14 +1,13 @@
 -- `eq_bands::row::over` meets its contract. Assumes nothing.
-use Prim.Native.Nat.{◌-◌, ◌<◌}
+use Prim.Native.Nat.{◌<◌}
 use native.Mathlib.Omega.{arith}
 use mathlib.Core.Path.{refl}
 use lib.ListN.{length}
 use lib.Ieee.{nan}
-use Rattle.fold.proofs.Block.{Upto, start, onward, ended}
+use Rattle.fold.proofs.Block.{start, onward, ended}
 use Rattle.eq_bands.proofs.InPlace.{Ahead}
 use Rattle.eq_bands.proofs.InPlace as ahead
-use Rattle.eq_bands.specs.Biquad.{step, next, output}
-use borrow.Author.Rules.{rules}
+use Rattle.eq_bands.specs.Biquad.{step}
 use Rattle.eq_bands.proofs.row.over.Goals as goal
 
 pub loop-i-init : goal.loop-i-init

@@ -1,14 +1,9 @@
 -- `eq_bands::row::over` meets its contract. Assumes nothing.
-use Prim.Native.Nat.{◌-◌, ◌<◌}
-use native.Mathlib.Omega.{arith}
-use mathlib.Core.Path.{refl}
+use Prim.Native.Nat.{◌-◌}
 use lib.ListN.{length}
-use lib.Ieee.{nan}
-use Rattle.fold.proofs.Block.{Upto, start, onward, ended}
+use Rattle.fold.proofs.Block.{Upto}
 use Rattle.eq_bands.proofs.InPlace.{Ahead}
-use Rattle.eq_bands.proofs.InPlace as ahead
-use Rattle.eq_bands.specs.Biquad.{step, next, output}
-use borrow.Author.Rules.{rules}
+use Rattle.eq_bands.specs.Biquad.{next, output}
 use Rattle.eq_bands.proofs.row.over.Given as goal
 
 abbrev pub invariant-loop-i : goal.invariant-loop-i

@@ -1,12 +1,10 @@
 -- `eq_bands::row::through` meets its contract. Assumes nothing.
-use Prim.Native.Nat.{◌-◌}
-use lib.ListN.{length-map}
 use Rattle.eq_bands.proofs.Loop.{nearer, next_fits, band-place, delay-place}
-use Rattle.eq_bands.proofs.InRow.{Upto, start, onward, ended, all-bands}
+use Rattle.eq_bands.proofs.InRow.{start, onward, ended, all-bands}
 use Rattle.eq_bands.proofs.row.through.Goals as goal
 
 pub loop-k-init : goal.loop-k-init
-loop-k-init c = start _ _ _ (simp length-map at c.well_formed.1.0.1.1.0.1.0.1)
+loop-k-init c = start _ _ _ (c.well_formed.1.0.1.1.0.1.0.1)
 
 pub offset_bounds-bands-k : goal.offset_bounds-bands-k
 offset_bounds-bands-k c = record { fits = band-place c.loop-k-test.true }
@@ -37,12 +35,12 @@ loop-k-smaller c = nearer c.loop-k-test.true
 
 pub loop-k-preserved : goal.loop-k-preserved
 loop-k-preserved c =
-    onward c.loop-k.invariant (simp length-map at c.well_formed.0.1.1.1.0.1.0.1) _ _ _ _ c.loop-k-test.true c.over.ensures
+    onward c.loop-k.invariant (c.well_formed.0.1.1.1.0.1.0.1) _ _ _ _ c.loop-k-test.true c.over.ensures
 
 pub shape_of-samples : goal.shape_of-samples
 shape_of-samples c = c.loop-k.invariant.kept
 
 pub returns : goal.returns
 returns c =
-    let e = ended c.loop-k.invariant (simp length-map at c.well_formed.0.1.1.1.0.1.0.1) c.loop-k-test.false in
+    let e = ended c.loop-k.invariant (c.well_formed.0.1.1.1.0.1.0.1) c.loop-k-test.false in
     all-bands _ _ _ _ _ e.0 e.1

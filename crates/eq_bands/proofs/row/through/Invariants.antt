@@ -1,8 +1,6 @@
 -- `eq_bands::row::through` meets its contract. Assumes nothing.
 use Prim.Native.Nat.{◌-◌}
-use lib.ListN.{length-map}
-use Rattle.eq_bands.proofs.Loop.{nearer, next_fits, band-place, delay-place}
-use Rattle.eq_bands.proofs.InRow.{Upto, start, onward, ended, all-bands}
+use Rattle.eq_bands.proofs.InRow.{Upto}
 use Rattle.eq_bands.proofs.row.through.Given as goal
 
 abbrev pub invariant-loop-k : goal.invariant-loop-k

@@ -1,0 +1,6 @@
+-- `leveller_settings::names::kept` meets its contract. Assumes nothing.
+use borrow.Author.Rules.{rules}
+use Rattle.leveller_settings.proofs.names.kept.Goals as goal
+
+pub returns : goal.returns
+returns c = rw (c.settled32.ensures, c.held.ensures)

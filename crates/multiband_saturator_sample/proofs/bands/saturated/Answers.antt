@@ -1,0 +1,14 @@
+-- `multiband_saturator_sample::bands::saturated` meets its contract. Assumes nothing.
+use lib.Ieee.{of_bits}
+use Rattle.answer.specs.Figures.{f32}
+use Rattle.multiband_saturator_sample.specs.Bands.{saturated}
+use borrow.Author.Rules.{rules}
+use Rattle.multiband_saturator_sample.proofs.bands.saturated.Goals as goal
+
+pub returns-then-env : goal.returns-then-env
+unfolding saturated f32 of_bits
+returns-then-env c = rw (c.if-env.true, c.saturate.ensures, c.fma32.ensures)
+
+pub returns-else-env : goal.returns-else-env
+unfolding saturated f32 of_bits
+returns-else-env c = rw (c.if-env.false, c.saturate-else-env.ensures)

@@ -1,0 +1,15 @@
+-- `tonestack::calls::reset` meets its contract. Assumes nothing.
+use mathlib.Core.Path.{sym, ◌∙◌}
+use borrow.Author.Tests.{not-true, not-false}
+use lib.Ieee.{of_bits}
+use Rattle.tonestack.specs.Calls.{acceptable, reset}
+use borrow.Author.Rules.{rules}
+use Rattle.tonestack.proofs.calls.reset.Goals as goal
+
+pub returns-then-not-settable : goal.returns-then-not-settable
+unfolding acceptable reset
+returns-then-not-settable c = c.refused.ensures ∙ rw (sym c.settable.ensures ∙ c.if-not-settable.true)
+
+pub returns : goal.returns
+unfolding acceptable reset of_bits
+returns c = rw (sym c.settable.ensures ∙ c.if-not-settable.false)

@@ -1,0 +1,13 @@
+-- `tonestack_sample::step::gain` meets its contract. Assumes nothing.
+use lib.Ieee.{of_bits}
+use Rattle.answer.specs.Figures.{f32}
+use Rattle.tonestack_sample.specs.Step.{gain}
+use Rattle.tonestack_sample.proofs.step.gain.Goals as goal
+
+pub returns-then-control : goal.returns-then-control
+unfolding gain f32 of_bits
+returns-then-control c = rw c.if-control.true
+
+pub returns-else-control : goal.returns-else-control
+unfolding gain f32 of_bits
+returns-else-control c = rw c.if-control.false
