@@ -1,3 +1,2 @@
 -- What a gate's block answers, where it crosses; what the calls in place share.
 pub mod Answers
-mod InPlace

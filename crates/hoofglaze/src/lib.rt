@@ -1,5 +1,7 @@
 // What a C or Rust host links: each part's calls under C names, with numbers for answers.
 // Assumes nothing.
+#![tactic(auto)]
+
 pub mod arithmetic;
 pub mod clip;
 pub mod equalise;

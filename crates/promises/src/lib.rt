@@ -1,1 +1,3 @@
+#![tactic(auto)]
+
 // What holds of every stage, a page each: statements and their proofs; no function.

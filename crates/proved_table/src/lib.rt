@@ -1,1 +1,3 @@
+#![tactic(auto)]
+
 // Document 01's proved table, with no function of its own.

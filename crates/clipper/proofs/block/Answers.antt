@@ -1,9 +1,8 @@
 -- `clipper::block` meets its contract. Assumes nothing.
 use mathlib.Core.Path.{ap, sym, ◌∙◌}
 use Rattle.answer.specs.Told.{done}
-use borrow.Author.Tests.{not-true, not-false, eqb-true, le-leb, lt-leb}
+use borrow.Author.Tests.{eqb-true, le-leb, lt-leb}
 use Rattle.clipper.specs.Block.{block}
-use borrow.Author.Rules.{rules}
 use Rattle.clipper.proofs.block.Goals as goal
 
 pub returns-then-not-lengths_agree : goal.returns-then-not-lengths_agree

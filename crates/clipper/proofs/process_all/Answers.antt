@@ -1,11 +1,8 @@
 -- `clipper::process_all` meets its contract. Assumes nothing.
-use Prim.Native.Nat.{◌-◌}
 use mathlib.Core.Path.{refl, ◌∙◌}
-use lib.ListN.{length}
 use lib.Ieee.{nan}
-use Rattle.fold.proofs.Block.{Upto, start, onward, ended}
+use Rattle.fold.proofs.Block.{start, onward, ended}
 use Rattle.clipper.proofs.Each.{stays, written, each}
-use borrow.Author.Rules.{rules}
 use Rattle.clipper.proofs.process_all.Goals as goal
 
 pub loop-i-init : goal.loop-i-init

@@ -1,11 +1,8 @@
 -- `clipper::process_all` meets its contract. Assumes nothing.
 use Prim.Native.Nat.{◌-◌}
-use mathlib.Core.Path.{refl, ◌∙◌}
 use lib.ListN.{length}
-use lib.Ieee.{nan}
-use Rattle.fold.proofs.Block.{Upto, start, onward, ended}
-use Rattle.clipper.proofs.Each.{stays, written, each}
-use borrow.Author.Rules.{rules}
+use Rattle.fold.proofs.Block.{Upto}
+use Rattle.clipper.proofs.Each.{stays, written}
 use Rattle.clipper.proofs.process_all.Given as goal
 
 abbrev pub invariant-loop-i : goal.invariant-loop-i

@@ -1,7 +1,6 @@
 -- `common::toward` meets its contract. Assumes nothing.
 use lib.Ieee.{of_bits}
 use Rattle.common.specs.Follower.{toward}
-use borrow.Author.Rules.{rules}
 use Rattle.common.proofs.toward.Goals as goal
 
 pub returns : goal.returns

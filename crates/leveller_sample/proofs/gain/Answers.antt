@@ -2,7 +2,6 @@
 use lib.Ieee.{of_bits}
 use Rattle.answer.specs.Figures.{f32}
 use Rattle.leveller_sample.specs.Step.{gain_at}
-use borrow.Author.Rules.{rules}
 use Rattle.leveller_sample.proofs.gain.Goals as goal
 
 pub returns-then-ratio : goal.returns-then-ratio

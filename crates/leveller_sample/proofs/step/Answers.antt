@@ -2,7 +2,6 @@
 use lib.Ieee.{of_bits}
 use Rattle.answer.specs.Figures.{f32}
 use Rattle.leveller_sample.specs.Step.{level_input, level, over, gain, output, next, step}
-use borrow.Author.Rules.{rules}
 use Rattle.leveller_sample.proofs.step.Goals as goal
 
 pub returns : goal.returns

@@ -1,6 +1,5 @@
 -- `multiband_saturator_sample::step` meets its contract. Assumes nothing.
 use Rattle.multiband_saturator_sample.specs.Step.{lowmid, midhigh, allpass, low_band, mid_band, high_band, output, next, step}
-use borrow.Author.Rules.{rules}
 use Rattle.multiband_saturator_sample.proofs.step.Goals as goal
 
 pub returns : goal.returns

@@ -1,5 +1,4 @@
 -- `noise_gate_sample::aims` meets its contract. Assumes nothing.
-use borrow.Author.Rules.{rules}
 use Rattle.noise_gate_sample.proofs.aims.Goals as goal
 
 pub returns-else-loud : goal.returns-else-loud

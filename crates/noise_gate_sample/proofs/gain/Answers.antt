@@ -2,7 +2,6 @@
 use lib.Ieee.{of_bits}
 use Rattle.answer.specs.Figures.{f32}
 use Rattle.noise_gate_sample.specs.Step.{gain_at}
-use borrow.Author.Rules.{rules}
 use Rattle.noise_gate_sample.proofs.gain.Goals as goal
 
 pub returns-then-state : goal.returns-then-state

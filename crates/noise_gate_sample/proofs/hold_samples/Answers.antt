@@ -1,6 +1,5 @@
 -- `noise_gate_sample::hold_samples` meets its contract. Assumes nothing.
 use Rattle.noise_gate_sample.specs.Step.{held}
-use borrow.Author.Rules.{rules}
 use Rattle.noise_gate_sample.proofs.hold_samples.Goals as goal
 
 pub returns : goal.returns

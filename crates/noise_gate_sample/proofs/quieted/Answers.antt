@@ -1,6 +1,5 @@
 -- `noise_gate_sample::quieted` meets its contract. Assumes nothing.
 use native.Mathlib.Omega.{arith}
-use borrow.Author.Rules.{rules}
 use Rattle.noise_gate_sample.proofs.quieted.Goals as goal
 
 pub returns-then-loud : goal.returns-then-loud

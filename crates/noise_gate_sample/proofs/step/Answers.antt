@@ -1,7 +1,6 @@
 -- `noise_gate_sample::step` meets its contract. Assumes nothing.
 use lib.Ieee.{of_bits}
 use Rattle.noise_gate_sample.specs.Step.{level, loud, counter, aim, target, state, gain, output, quiet, next, step}
-use borrow.Author.Rules.{rules}
 use Rattle.noise_gate_sample.proofs.step.Goals as goal
 
 pub returns : goal.returns

@@ -4,7 +4,6 @@ use native.Mathlib.Omega.{arith}
 use lib.Dec.{le→leb}
 use lib.Ieee.{of_bits, in_float}
 use Rattle.pcm.proofs.Whole.{tie-above, tie-value, held-size, under-tie, over-tie, at-tie}
-use borrow.Author.Rules.{rules}
 use Rattle.pcm.proofs.whole_size.Goals as goal
 
 pub returns-then-most-n : goal.returns-then-most-n

@@ -7,7 +7,6 @@ use lib.Ieee.{of_bits}
 use Rattle.answer.specs.Figures.{f32}
 use Rattle.pcm.specs.Samples.{written}
 use Rattle.pcm.proofs.Whole.{absolute-size, whole-most, below-zero, not-below-zero}
-use borrow.Author.Rules.{rules}
 use Rattle.pcm.proofs.written.Goals as goal
 
 pub whole_size-n-requires : goal.whole_size-n-requires

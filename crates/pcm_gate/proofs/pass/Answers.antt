@@ -1,8 +1,7 @@
 -- `pcm_gate::pass` meets its contract. Assumes nothing.
 use mathlib.Core.Path.{sym, ◌∙◌}
-use borrow.Author.Tests.{not-true, not-false, eqb-true}
+use borrow.Author.Tests.{eqb-true}
 use Rattle.pcm_gate.specs.Pass.{pass}
-use borrow.Author.Rules.{rules}
 use Rattle.pcm_gate.proofs.pass.Goals as goal
 
 pub returns-then-not-acceptable : goal.returns-then-not-acceptable

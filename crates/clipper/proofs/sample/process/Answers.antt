@@ -2,7 +2,6 @@
 use lib.Ieee.{of_bits, neg}
 use Rattle.clipper.specs.Process.{process, shaped, hard}
 use Rattle.answer.specs.Figures.{f32}
-use borrow.Author.Rules.{rules}
 use Rattle.clipper.proofs.sample.process.Goals as goal
 
 pub returns-in-Hard : goal.returns-in-Hard

@@ -2,7 +2,6 @@
 use lib.Ieee.{of_bits, neg}
 use Rattle.clipper.specs.Process.{coeff_b}
 use Rattle.answer.specs.Figures.{f32}
-use borrow.Author.Rules.{rules}
 use Rattle.clipper.proofs.triode.coeff_b.Goals as goal
 
 pub returns : goal.returns

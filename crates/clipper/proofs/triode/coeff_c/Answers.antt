@@ -2,7 +2,6 @@
 use lib.Ieee.{of_bits, neg}
 use Rattle.clipper.specs.Process.{coeff_c}
 use Rattle.answer.specs.Figures.{f32}
-use borrow.Author.Rules.{rules}
 use Rattle.clipper.proofs.triode.coeff_c.Goals as goal
 
 pub returns : goal.returns

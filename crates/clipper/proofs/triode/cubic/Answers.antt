@@ -1,6 +1,5 @@
 -- `clipper::triode::cubic` meets its contract. Assumes nothing.
 use Rattle.clipper.specs.Process.{cubic}
-use borrow.Author.Rules.{rules}
 use Rattle.clipper.proofs.triode.cubic.Goals as goal
 
 pub returns : goal.returns

@@ -1,7 +1,6 @@
 -- `clipper::triode::index_of` meets its contract. Assumes nothing.
 use native.Mathlib.Omega.{arith}
 use Rattle.clipper.specs.Process.{index}
-use borrow.Author.Rules.{rules}
 use Rattle.clipper.proofs.triode.index_of.Goals as goal
 
 pub returns : goal.returns

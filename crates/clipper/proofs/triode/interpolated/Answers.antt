@@ -1,6 +1,5 @@
 -- `clipper::triode::interpolated` meets its contract. Assumes nothing.
 use Rattle.clipper.specs.Process.{interpolated}
-use borrow.Author.Rules.{rules}
 use Rattle.clipper.proofs.triode.interpolated.Goals as goal
 
 pub returns : goal.returns

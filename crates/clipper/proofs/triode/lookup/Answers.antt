@@ -1,6 +1,5 @@
 -- `clipper::triode::lookup` meets its contract. Assumes nothing.
 use Rattle.clipper.specs.Process.{lookup}
-use borrow.Author.Rules.{rules}
 use Rattle.clipper.proofs.triode.lookup.Goals as goal
 
 pub returns : goal.returns

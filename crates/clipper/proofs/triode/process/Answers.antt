@@ -5,7 +5,6 @@ use lib.Dec.{le→leb}
 use lib.Ieee.{of_bits, neg, in_float}
 use Rattle.clipper.specs.Process.{triode}
 use Rattle.answer.specs.Figures.{f32}
-use borrow.Author.Rules.{rules}
 use Rattle.clipper.proofs.triode.process.Goals as goal
 
 pub int_to_float-i : goal.int_to_float-i

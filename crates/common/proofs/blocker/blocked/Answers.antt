@@ -1,6 +1,5 @@
 -- `common::blocker::blocked` meets its contract. Assumes nothing.
 use Rattle.common.specs.Blocker.{blocked}
-use borrow.Author.Rules.{rules}
 use Rattle.common.proofs.blocker.blocked.Goals as goal
 
 pub returns : goal.returns

@@ -2,7 +2,6 @@
 use mathlib.Core.Path.{sym, ◌∙◌}
 use lib.Ieee.{of_bits}
 use Rattle.common.specs.Blocker.{make}
-use borrow.Author.Rules.{rules}
 use Rattle.common.proofs.blocker.make.Goals as goal
 
 pub returns-then-is_smoothing : goal.returns-then-is_smoothing

@@ -1,7 +1,6 @@
 -- `common::blocker::step` meets its contract. Assumes nothing.
 use mathlib.Core.Path.{sym, ◌∙◌}
 use Rattle.common.specs.Blocker.{step}
-use borrow.Author.Rules.{rules}
 use Rattle.common.proofs.blocker.step.Goals as goal
 
 pub returns-then-is_smoothing : goal.returns-then-is_smoothing

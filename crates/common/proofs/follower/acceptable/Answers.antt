@@ -1,6 +1,5 @@
 -- `common::follower::acceptable` meets its contract. Assumes nothing.
 use Rattle.common.specs.Follower.{acceptable}
-use borrow.Author.Rules.{rules}
 use Rattle.common.proofs.follower.acceptable.Goals as goal
 
 pub returns : goal.returns

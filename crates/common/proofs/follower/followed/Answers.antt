@@ -1,7 +1,6 @@
 -- `common::follower::followed` meets its contract. Assumes nothing.
 use mathlib.Core.Path.{◌∙◌}
 use Rattle.common.specs.Follower.{followed}
-use borrow.Author.Rules.{rules}
 use Rattle.common.proofs.follower.followed.Goals as goal
 
 pub returns-then-r-level : goal.returns-then-r-level

@@ -2,7 +2,6 @@
 use mathlib.Core.Path.{sym, ◌∙◌}
 use lib.Ieee.{of_bits}
 use Rattle.common.specs.Follower.{make}
-use borrow.Author.Rules.{rules}
 use Rattle.common.proofs.follower.make.Goals as goal
 
 pub returns-then-acceptable : goal.returns-then-acceptable

@@ -2,7 +2,6 @@
 use mathlib.Core.Path.{sym, ◌∙◌}
 use lib.Ieee.{of_bits}
 use Rattle.common.specs.Follower.{reset}
-use borrow.Author.Rules.{rules}
 use Rattle.common.proofs.follower.reset.Goals as goal
 
 pub returns-then-acceptable : goal.returns-then-acceptable

@@ -1,7 +1,6 @@
 -- `common::follower::step` meets its contract. Assumes nothing.
 use mathlib.Core.Path.{sym, ◌∙◌}
 use Rattle.common.specs.Follower.{step}
-use borrow.Author.Rules.{rules}
 use Rattle.common.proofs.follower.step.Goals as goal
 
 pub returns-then-acceptable : goal.returns-then-acceptable

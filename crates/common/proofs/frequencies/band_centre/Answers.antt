@@ -7,7 +7,6 @@ use lib.Ieee.{nan, of_bits}
 use Rattle.common.specs.Frequencies.{centres, band_centre}
 use Rattle.common.specs.declared.frequencies.Centre.TheVariants.{Hertz, Nothing}
 use Rattle.common.proofs.Lookup.{found}
-use borrow.Author.Rules.{rules}
 use Rattle.common.proofs.frequencies.band_centre.Goals as goal
 
 pub returns-then-band-lt16 : goal.returns-then-band-lt16

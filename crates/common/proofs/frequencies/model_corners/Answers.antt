@@ -2,7 +2,6 @@
 use lib.Ieee.{of_bits}
 use Rattle.answer.specs.Figures.{f32}
 use Rattle.common.specs.Frequencies.{model_corners}
-use borrow.Author.Rules.{rules}
 use Rattle.common.proofs.frequencies.model_corners.Goals as goal
 
 pub returns-in-Modern : goal.returns-in-Modern

@@ -2,7 +2,6 @@
 use lib.Ieee.{of_bits}
 use Rattle.answer.specs.Figures.{f32}
 use Rattle.leveller.specs.Bounds.{in_bounds, acceptable}
-use borrow.Author.Rules.{rules}
 use Rattle.leveller.proofs.bounds.acceptable.Goals as goal
 
 pub returns : goal.returns

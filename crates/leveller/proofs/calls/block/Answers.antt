@@ -1,10 +1,8 @@
 -- `leveller::calls::block` meets its contract. Assumes nothing.
 use mathlib.Core.Path.{sym, ◌∙◌}
-use borrow.Author.Tests.{not-true, not-false}
 use Rattle.answer.specs.Blocks.{checked_block}
 use Rattle.answer.proofs.Blocks.{accepted as accepted-block}
 use Rattle.leveller.specs.Calls.{block}
-use borrow.Author.Rules.{rules}
 use Rattle.leveller.proofs.calls.block.Goals as goal
 
 pub returns-then-not-acceptable : goal.returns-then-not-acceptable

@@ -1,9 +1,7 @@
 -- `leveller::calls::make` meets its contract. Assumes nothing.
 use mathlib.Core.Path.{sym, ◌∙◌}
-use borrow.Author.Tests.{not-true, not-false}
 use lib.Ieee.{of_bits}
 use Rattle.leveller.specs.Calls.{make}
-use borrow.Author.Rules.{rules}
 use Rattle.leveller.proofs.calls.make.Goals as goal
 
 pub returns-then-not-is_rate : goal.returns-then-not-is_rate

@@ -1,9 +1,7 @@
 -- `leveller::calls::read` meets its contract. Assumes nothing.
 use mathlib.Core.Path.{sym, ◌∙◌}
-use borrow.Author.Tests.{not-true, not-false}
 use lib.Ieee.{of_bits}
 use Rattle.leveller.specs.Calls.{read, read_found}
-use borrow.Author.Rules.{rules}
 use Rattle.leveller.proofs.calls.read.Goals as goal
 
 pub returns-then-not-acceptable : goal.returns-then-not-acceptable

@@ -1,8 +1,6 @@
 -- `leveller::calls::set` meets its contract. Assumes nothing.
 use mathlib.Core.Path.{sym, ◌∙◌}
-use borrow.Author.Tests.{not-true, not-false}
 use Rattle.leveller.specs.Calls.{set, set_found}
-use borrow.Author.Rules.{rules}
 use Rattle.leveller.proofs.calls.set.Goals as goal
 
 pub returns-then-not-acceptable : goal.returns-then-not-acceptable

@@ -1,8 +1,6 @@
 -- `leveller::calls::set_typed` meets its contract. Assumes nothing.
 use mathlib.Core.Path.{sym, ◌∙◌}
-use borrow.Author.Tests.{not-true, not-false}
 use Rattle.leveller.specs.Calls.{set_typed}
-use borrow.Author.Rules.{rules}
 use Rattle.leveller.proofs.calls.set_typed.Goals as goal
 
 pub returns-then-not-acceptable : goal.returns-then-not-acceptable

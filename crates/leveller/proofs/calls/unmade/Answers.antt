@@ -1,6 +1,5 @@
 -- `leveller::calls::unmade` meets its contract. Assumes nothing.
 use lib.Ieee.{of_bits}
-use borrow.Author.Rules.{rules}
 use Rattle.leveller.proofs.calls.unmade.Goals as goal
 
 pub returns : goal.returns

@@ -1,10 +1,7 @@
 -- `leveller::samples::run` meets its contract. Assumes nothing.
-use Prim.Native.Nat.{◌-◌}
-use lib.ListN.{length}
 use lib.Ieee.{nan}
-use Rattle.fold.proofs.Block.{Upto, start, onward, ended}
-use borrow.Author.Rules.{rules}
-use Rattle.leveller_sample.specs.Step.{output as given, next, step}
+use Rattle.fold.proofs.Block.{start, onward, ended}
+use Rattle.leveller_sample.specs.Step.{step}
 use Rattle.leveller.proofs.samples.run.Goals as goal
 
 pub loop-i-init : goal.loop-i-init

@@ -1,10 +1,8 @@
 -- `leveller::samples::run` meets its contract. Assumes nothing.
 use Prim.Native.Nat.{◌-◌}
 use lib.ListN.{length}
-use lib.Ieee.{nan}
-use Rattle.fold.proofs.Block.{Upto, start, onward, ended}
-use borrow.Author.Rules.{rules}
-use Rattle.leveller_sample.specs.Step.{output as given, next, step}
+use Rattle.fold.proofs.Block.{Upto}
+use Rattle.leveller_sample.specs.Step.{output as given, next}
 use Rattle.leveller.proofs.samples.run.Given as goal
 
 abbrev pub invariant-loop-i : goal.invariant-loop-i

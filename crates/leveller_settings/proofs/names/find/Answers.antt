@@ -1,5 +1,4 @@
 -- `leveller_settings::names::find` meets its contract. Assumes nothing.
-use borrow.Author.Rules.{rules}
 use Rattle.leveller_settings.specs.Names.{named}
 use Rattle.leveller_settings.proofs.names.find.Goals as goal
 

@@ -1,6 +1,5 @@
 -- `leveller_settings::names::held` meets its contract. Assumes nothing.
 use Rattle.leveller_settings.specs.Names.{kept}
-use borrow.Author.Rules.{rules}
 use Rattle.leveller_settings.proofs.names.held.Goals as goal
 
 pub returns-in-Threshold : goal.returns-in-Threshold

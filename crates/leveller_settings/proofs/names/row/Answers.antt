@@ -1,6 +1,5 @@
 -- `leveller_settings::names::row` meets its contract. Assumes nothing.
 use mathlib.Core.Path.{sym, ◌∙◌}
-use borrow.Author.Rules.{rules}
 use Rattle.leveller_settings.proofs.names.row.Goals as goal
 
 pub returns-then-same : goal.returns-then-same

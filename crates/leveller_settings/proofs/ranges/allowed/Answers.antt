@@ -1,6 +1,5 @@
 -- `leveller_settings::ranges::allowed` meets its contract. Assumes nothing.
 use Rattle.leveller_settings.specs.Ranges.{allowed}
-use borrow.Author.Rules.{rules}
 use Rattle.leveller_settings.proofs.ranges.allowed.Goals as goal
 
 pub returns : goal.returns

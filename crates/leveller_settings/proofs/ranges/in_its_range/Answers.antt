@@ -2,7 +2,6 @@
 use lib.Ieee.{of_bits, neg}
 use Rattle.answer.specs.Figures.{f32}
 use Rattle.leveller_settings.specs.Ranges.{in_its_range}
-use borrow.Author.Rules.{rules}
 use Rattle.leveller_settings.proofs.ranges.in_its_range.Goals as goal
 
 pub returns-in-Threshold : goal.returns-in-Threshold

@@ -1,6 +1,5 @@
 -- `leveller_settings::ranges::settable` meets its contract. Assumes nothing.
 use Rattle.leveller_settings.specs.Ranges.{settable}
-use borrow.Author.Rules.{rules}
 use Rattle.leveller_settings.proofs.ranges.settable.Goals as goal
 
 pub returns : goal.returns

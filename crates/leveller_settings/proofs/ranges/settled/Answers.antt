@@ -1,5 +1,4 @@
 -- `leveller_settings::ranges::settled` meets its contract. Assumes nothing.
-use borrow.Author.Rules.{rules}
 use Rattle.leveller_settings.proofs.ranges.settled.Goals as goal
 
 pub returns-in-Threshold : goal.returns-in-Threshold

@@ -1,7 +1,6 @@
 -- `leveller_settings::ranges::with_setting` meets its contract. Assumes nothing.
 use mathlib.Core.Path.{sym}
 use Rattle.leveller_settings.specs.Ranges.{with_setting}
-use borrow.Author.Rules.{rules}
 use Rattle.leveller_settings.proofs.ranges.with_setting.Goals as goal
 
 pub returns-in-Threshold : goal.returns-in-Threshold

@@ -1,10 +1,8 @@
 -- `multiband_saturator::calls::block` meets its contract. Assumes nothing.
 use mathlib.Core.Path.{sym, ◌∙◌}
-use borrow.Author.Tests.{not-true, not-false}
 use Rattle.answer.specs.Blocks.{checked_block}
 use Rattle.answer.proofs.Blocks.{accepted as accepted-block}
 use Rattle.multiband_saturator.specs.Calls.{block}
-use borrow.Author.Rules.{rules}
 use Rattle.multiband_saturator.proofs.calls.block.Goals as goal
 
 pub returns-then-not-settable : goal.returns-then-not-settable

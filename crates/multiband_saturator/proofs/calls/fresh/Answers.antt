@@ -1,6 +1,5 @@
 -- `multiband_saturator::calls::fresh` meets its contract. Assumes nothing.
 use lib.Ieee.{of_bits}
-use borrow.Author.Rules.{rules}
 use Rattle.multiband_saturator.proofs.calls.fresh.Goals as goal
 
 pub returns : goal.returns

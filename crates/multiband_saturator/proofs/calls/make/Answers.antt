@@ -1,10 +1,8 @@
 -- `multiband_saturator::calls::make` meets its contract. Assumes nothing.
 use mathlib.Core.Path.{sym, ◌∙◌}
-use borrow.Author.Tests.{not-true, not-false}
 use lib.Ieee.{of_bits}
 use Rattle.answer.specs.Figures.{f32}
 use Rattle.multiband_saturator.specs.Calls.{made, make}
-use borrow.Author.Rules.{rules}
 use Rattle.multiband_saturator.proofs.calls.make.Goals as goal
 
 pub returns-then-not-is_rate : goal.returns-then-not-is_rate

@@ -1,9 +1,7 @@
 -- `multiband_saturator::calls::read` meets its contract. Assumes nothing.
 use mathlib.Core.Path.{sym, ◌∙◌}
-use borrow.Author.Tests.{not-true, not-false}
 use lib.Ieee.{of_bits}
 use Rattle.multiband_saturator.specs.Calls.{read, read_found}
-use borrow.Author.Rules.{rules}
 use Rattle.multiband_saturator.proofs.calls.read.Goals as goal
 
 pub returns-then-not-settable : goal.returns-then-not-settable

@@ -1,8 +1,6 @@
 -- `multiband_saturator::calls::reset` meets its contract. Assumes nothing.
 use mathlib.Core.Path.{sym, ◌∙◌}
-use borrow.Author.Tests.{not-true, not-false}
 use Rattle.multiband_saturator.specs.Calls.{reset}
-use borrow.Author.Rules.{rules}
 use Rattle.multiband_saturator.proofs.calls.reset.Goals as goal
 
 pub returns-then-not-settable : goal.returns-then-not-settable

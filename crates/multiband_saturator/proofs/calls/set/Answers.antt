@@ -1,8 +1,6 @@
 -- `multiband_saturator::calls::set` meets its contract. Assumes nothing.
 use mathlib.Core.Path.{sym, ◌∙◌}
-use borrow.Author.Tests.{not-true, not-false}
 use Rattle.multiband_saturator.specs.Calls.{set, set_found}
-use borrow.Author.Rules.{rules}
 use Rattle.multiband_saturator.proofs.calls.set.Goals as goal
 
 pub returns-then-not-settable : goal.returns-then-not-settable

@@ -1,7 +1,6 @@
 -- `multiband_saturator::calls::unmade` meets its contract. Assumes nothing.
 use mathlib.Core.Path.{◌∙◌}
 use lib.Ieee.{of_bits}
-use borrow.Author.Rules.{rules}
 use Rattle.multiband_saturator.proofs.calls.unmade.Goals as goal
 
 pub returns : goal.returns

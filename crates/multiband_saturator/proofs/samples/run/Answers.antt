@@ -1,11 +1,8 @@
 -- `multiband_saturator::samples::run` meets its contract. Assumes nothing.
-use Prim.Native.Nat.{◌-◌}
 use native.Mathlib.Omega.{arith}
-use lib.ListN.{length}
 use lib.Ieee.{nan}
-use Rattle.fold.proofs.Block.{Upto, start, onward, ended}
-use borrow.Author.Rules.{rules}
-use Rattle.multiband_saturator_sample.specs.Step.{output as given, next, step}
+use Rattle.fold.proofs.Block.{start, onward, ended}
+use Rattle.multiband_saturator_sample.specs.Step.{step}
 use Rattle.multiband_saturator.proofs.samples.run.Goals as goal
 
 pub loop-i-init : goal.loop-i-init

@@ -1,11 +1,8 @@
 -- `multiband_saturator::samples::run` meets its contract. Assumes nothing.
 use Prim.Native.Nat.{◌-◌}
-use native.Mathlib.Omega.{arith}
 use lib.ListN.{length}
-use lib.Ieee.{nan}
-use Rattle.fold.proofs.Block.{Upto, start, onward, ended}
-use borrow.Author.Rules.{rules}
-use Rattle.multiband_saturator_sample.specs.Step.{output as given, next, step}
+use Rattle.fold.proofs.Block.{Upto}
+use Rattle.multiband_saturator_sample.specs.Step.{output as given, next}
 use Rattle.multiband_saturator.proofs.samples.run.Given as goal
 
 abbrev pub invariant-loop-i : goal.invariant-loop-i

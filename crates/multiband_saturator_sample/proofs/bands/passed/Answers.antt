@@ -1,6 +1,5 @@
 -- `multiband_saturator_sample::bands::passed` meets its contract. Assumes nothing.
 use Rattle.multiband_saturator_sample.specs.Bands.{passed}
-use borrow.Author.Rules.{rules}
 use Rattle.multiband_saturator_sample.proofs.bands.passed.Goals as goal
 
 pub returns : goal.returns

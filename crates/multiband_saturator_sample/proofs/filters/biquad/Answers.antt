@@ -1,6 +1,5 @@
 -- `multiband_saturator_sample::filters::biquad` meets its contract. Assumes nothing.
 use Rattle.multiband_saturator_sample.specs.Filters.{biquad}
-use borrow.Author.Rules.{rules}
 use Rattle.multiband_saturator_sample.proofs.filters.biquad.Goals as goal
 
 pub returns : goal.returns

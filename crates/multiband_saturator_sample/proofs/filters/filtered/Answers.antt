@@ -1,6 +1,5 @@
 -- `multiband_saturator_sample::filters::filtered` meets its contract. Assumes nothing.
 use Rattle.multiband_saturator_sample.specs.Filters.{filtered}
-use borrow.Author.Rules.{rules}
 use Rattle.multiband_saturator_sample.proofs.filters.filtered.Goals as goal
 
 pub returns : goal.returns

@@ -1,6 +1,5 @@
 -- `multiband_saturator_sample::filters::output` meets its contract. Assumes nothing.
 use Rattle.multiband_saturator_sample.specs.Filters.{output}
-use borrow.Author.Rules.{rules}
 use Rattle.multiband_saturator_sample.proofs.filters.output.Goals as goal
 
 pub returns : goal.returns

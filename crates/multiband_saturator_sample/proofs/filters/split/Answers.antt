@@ -1,6 +1,5 @@
 -- `multiband_saturator_sample::filters::split` meets its contract. Assumes nothing.
 use Rattle.multiband_saturator_sample.specs.Filters.{split}
-use borrow.Author.Rules.{rules}
 use Rattle.multiband_saturator_sample.proofs.filters.split.Goals as goal
 
 pub returns : goal.returns

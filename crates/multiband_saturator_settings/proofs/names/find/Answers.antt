@@ -1,7 +1,6 @@
 -- `multiband_saturator_settings::names::find` meets its contract. Assumes nothing.
 use borrow.Author.Tests.{lt-ltb, le-ltb}
 use Rattle.multiband_saturator_settings.proofs.Places.{at_its_place}
-use borrow.Author.Rules.{rules}
 use Rattle.multiband_saturator_settings.proofs.names.find.Goals as goal
 
 pub returns-then-i-lt8 : goal.returns-then-i-lt8

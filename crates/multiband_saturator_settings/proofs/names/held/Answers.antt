@@ -1,6 +1,5 @@
 -- `multiband_saturator_settings::names::held` meets its contract. Assumes nothing.
 use Rattle.multiband_saturator_settings.specs.Names.{kept}
-use borrow.Author.Rules.{rules}
 use Rattle.multiband_saturator_settings.proofs.names.held.Goals as goal
 
 pub returns-in-Drive : goal.returns-in-Drive

@@ -1,5 +1,4 @@
 -- `multiband_saturator_settings::names::kept` meets its contract. Assumes nothing.
-use borrow.Author.Rules.{rules}
 use Rattle.multiband_saturator_settings.proofs.names.kept.Goals as goal
 
 pub returns : goal.returns

@@ -1,6 +1,5 @@
 -- `multiband_saturator_settings::names::of_band` meets its contract. Assumes nothing.
 use Rattle.multiband_saturator_settings.specs.Names.{of_band}
-use borrow.Author.Rules.{rules}
 use Rattle.multiband_saturator_settings.proofs.names.of_band.Goals as goal
 
 pub returns-in-Low : goal.returns-in-Low

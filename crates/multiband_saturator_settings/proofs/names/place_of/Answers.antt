@@ -1,6 +1,5 @@
 -- `multiband_saturator_settings::names::place_of` meets its contract. Assumes nothing.
 use Rattle.multiband_saturator_settings.specs.Places.{place_of}
-use borrow.Author.Rules.{rules}
 use Rattle.multiband_saturator_settings.proofs.names.place_of.Goals as goal
 
 pub returns : goal.returns

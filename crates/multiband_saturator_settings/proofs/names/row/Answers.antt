@@ -1,6 +1,5 @@
 -- `multiband_saturator_settings::names::row` meets its contract. Assumes nothing.
 use mathlib.Core.Path.{sym, ◌∙◌}
-use borrow.Author.Rules.{rules}
 use Rattle.multiband_saturator_settings.proofs.names.row.Goals as goal
 
 pub returns-then-same : goal.returns-then-same

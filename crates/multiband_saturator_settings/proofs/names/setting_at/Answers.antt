@@ -1,7 +1,6 @@
 -- `multiband_saturator_settings::names::setting_at` meets its contract. Assumes nothing.
 use borrow.Author.Tests.{lt-ltb, le-ltb, ne_eqb}
 use Rattle.multiband_saturator_settings.specs.Places.{setting_at}
-use borrow.Author.Rules.{rules}
 use Rattle.multiband_saturator_settings.proofs.names.setting_at.Goals as goal
 
 pub returns-then-i-lt3 : goal.returns-then-i-lt3

@@ -1,7 +1,6 @@
 -- `multiband_saturator_settings::ranges::each_within` meets its contract. Assumes nothing.
 use lib.Ieee.{of_bits}
 use Rattle.multiband_saturator_settings.specs.Ranges.{each_within}
-use borrow.Author.Rules.{rules}
 use Rattle.multiband_saturator_settings.proofs.ranges.each_within.Goals as goal
 
 pub returns : goal.returns

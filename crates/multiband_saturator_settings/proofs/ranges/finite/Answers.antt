@@ -1,6 +1,5 @@
 -- `multiband_saturator_settings::ranges::finite` meets its contract. Assumes nothing.
 use Rattle.multiband_saturator_settings.specs.Ranges.{finite_all}
-use borrow.Author.Rules.{rules}
 use Rattle.multiband_saturator_settings.proofs.ranges.finite.Goals as goal
 
 pub returns : goal.returns

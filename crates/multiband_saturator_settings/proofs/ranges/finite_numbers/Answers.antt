@@ -1,6 +1,5 @@
 -- `multiband_saturator_settings::ranges::finite_numbers` meets its contract. Assumes nothing.
 use Rattle.multiband_saturator_settings.specs.Ranges.{finite_numbers}
-use borrow.Author.Rules.{rules}
 use Rattle.multiband_saturator_settings.proofs.ranges.finite_numbers.Goals as goal
 
 pub returns : goal.returns

@@ -2,7 +2,6 @@
 use lib.Ieee.{of_bits}
 use Rattle.answer.specs.Figures.{f32}
 use Rattle.multiband_saturator_settings.specs.Ranges.{in_its_range}
-use borrow.Author.Rules.{rules}
 use Rattle.multiband_saturator_settings.proofs.ranges.in_its_range.Goals as goal
 
 pub returns-in-Drive : goal.returns-in-Drive

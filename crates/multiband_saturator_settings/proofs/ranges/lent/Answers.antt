@@ -1,6 +1,5 @@
 -- `multiband_saturator_settings::ranges::lent` meets its contract. Assumes nothing.
 use Rattle.multiband_saturator_settings.specs.Ranges.{lent}
-use borrow.Author.Rules.{rules}
 use Rattle.multiband_saturator_settings.proofs.ranges.lent.Goals as goal
 
 pub returns : goal.returns

@@ -2,7 +2,6 @@
 use lib.Ieee.{of_bits}
 use Rattle.answer.specs.Figures.{f32}
 use Rattle.multiband_saturator_settings.specs.Ranges.{settable}
-use borrow.Author.Rules.{rules}
 use Rattle.multiband_saturator_settings.proofs.ranges.settable.Goals as goal
 
 pub returns : goal.returns

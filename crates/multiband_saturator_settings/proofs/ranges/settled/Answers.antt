@@ -1,5 +1,4 @@
 -- `multiband_saturator_settings::ranges::settled` meets its contract. Assumes nothing.
-use borrow.Author.Rules.{rules}
 use Rattle.multiband_saturator_settings.proofs.ranges.settled.Goals as goal
 
 pub returns-in-Drive : goal.returns-in-Drive

@@ -1,5 +1,4 @@
 -- `multiband_saturator_settings::ranges::settled_numbers` meets its contract. Assumes nothing.
-use borrow.Author.Rules.{rules}
 use Rattle.multiband_saturator_settings.proofs.ranges.settled_numbers.Goals as goal
 
 pub returns : goal.returns

@@ -1,6 +1,5 @@
 -- `multiband_saturator_settings::ranges::with_band` meets its contract. Assumes nothing.
 use Rattle.multiband_saturator_settings.specs.Ranges.{with_band}
-use borrow.Author.Rules.{rules}
 use Rattle.multiband_saturator_settings.proofs.ranges.with_band.Goals as goal
 
 pub returns-in-Low : goal.returns-in-Low

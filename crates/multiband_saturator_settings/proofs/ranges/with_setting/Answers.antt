@@ -1,7 +1,6 @@
 -- `multiband_saturator_settings::ranges::with_setting` meets its contract. Assumes nothing.
 use mathlib.Core.Path.{sym}
 use Rattle.multiband_saturator_settings.specs.Ranges.{with_setting}
-use borrow.Author.Rules.{rules}
 use Rattle.multiband_saturator_settings.proofs.ranges.with_setting.Goals as goal
 
 pub returns-in-Drive : goal.returns-in-Drive

@@ -1,6 +1,5 @@
 -- `multiband_saturator_settings::ranges::worked` meets its contract. Assumes nothing.
 use Rattle.multiband_saturator_settings.specs.Ranges.{worked}
-use borrow.Author.Rules.{rules}
 use Rattle.multiband_saturator_settings.proofs.ranges.worked.Goals as goal
 
 pub returns-in-Drive : goal.returns-in-Drive

@@ -1,5 +1,4 @@
 -- `noise_gate_settings::names::find` meets its contract. Assumes nothing.
-use borrow.Author.Rules.{rules}
 use Rattle.noise_gate_settings.specs.Names.{named}
 use Rattle.noise_gate_settings.proofs.names.find.Goals as goal
 

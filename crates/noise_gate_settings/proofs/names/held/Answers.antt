@@ -1,6 +1,5 @@
 -- `noise_gate_settings::names::held` meets its contract. Assumes nothing.
 use Rattle.noise_gate_settings.specs.Names.{kept}
-use borrow.Author.Rules.{rules}
 use Rattle.noise_gate_settings.proofs.names.held.Goals as goal
 
 pub returns-in-Threshold : goal.returns-in-Threshold

@@ -1,5 +1,4 @@
 -- `noise_gate_settings::names::kept` meets its contract. Assumes nothing.
-use borrow.Author.Rules.{rules}
 use Rattle.noise_gate_settings.proofs.names.kept.Goals as goal
 
 pub returns : goal.returns

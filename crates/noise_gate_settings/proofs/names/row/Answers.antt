@@ -1,6 +1,5 @@
 -- `noise_gate_settings::names::row` meets its contract. Assumes nothing.
 use mathlib.Core.Path.{sym, ◌∙◌}
-use borrow.Author.Rules.{rules}
 use Rattle.noise_gate_settings.proofs.names.row.Goals as goal
 
 pub returns-then-same : goal.returns-then-same

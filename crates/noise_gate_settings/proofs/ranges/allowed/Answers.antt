@@ -1,6 +1,5 @@
 -- `noise_gate_settings::ranges::allowed` meets its contract. Assumes nothing.
 use Rattle.noise_gate_settings.specs.Ranges.{allowed}
-use borrow.Author.Rules.{rules}
 use Rattle.noise_gate_settings.proofs.ranges.allowed.Goals as goal
 
 pub returns : goal.returns

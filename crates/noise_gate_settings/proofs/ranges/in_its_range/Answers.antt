@@ -2,7 +2,6 @@
 use lib.Ieee.{of_bits, neg}
 use Rattle.answer.specs.Figures.{f32}
 use Rattle.noise_gate_settings.specs.Ranges.{in_its_range}
-use borrow.Author.Rules.{rules}
 use Rattle.noise_gate_settings.proofs.ranges.in_its_range.Goals as goal
 
 pub returns-in-Threshold : goal.returns-in-Threshold

@@ -1,6 +1,5 @@
 -- `noise_gate_settings::ranges::settable` meets its contract. Assumes nothing.
 use Rattle.noise_gate_settings.specs.Ranges.{settable}
-use borrow.Author.Rules.{rules}
 use Rattle.noise_gate_settings.proofs.ranges.settable.Goals as goal
 
 pub returns : goal.returns

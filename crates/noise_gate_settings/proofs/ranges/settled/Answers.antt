@@ -1,5 +1,4 @@
 -- `noise_gate_settings::ranges::settled` meets its contract. Assumes nothing.
-use borrow.Author.Rules.{rules}
 use Rattle.noise_gate_settings.proofs.ranges.settled.Goals as goal
 
 pub returns-in-Threshold : goal.returns-in-Threshold

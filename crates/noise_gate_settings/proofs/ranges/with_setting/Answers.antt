@@ -1,7 +1,6 @@
 -- `noise_gate_settings::ranges::with_setting` meets its contract. Assumes nothing.
 use mathlib.Core.Path.{sym}
 use Rattle.noise_gate_settings.specs.Ranges.{with_setting}
-use borrow.Author.Rules.{rules}
 use Rattle.noise_gate_settings.proofs.ranges.with_setting.Goals as goal
 
 pub returns-in-Threshold : goal.returns-in-Threshold

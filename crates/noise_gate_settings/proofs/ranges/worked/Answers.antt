@@ -2,7 +2,6 @@
 use lib.Ieee.{of_bits}
 use Rattle.answer.specs.Figures.{f32}
 use Rattle.noise_gate_settings.specs.Ranges.{worked}
-use borrow.Author.Rules.{rules}
 use Rattle.noise_gate_settings.proofs.ranges.worked.Goals as goal
 
 pub returns-in-Threshold : goal.returns-in-Threshold

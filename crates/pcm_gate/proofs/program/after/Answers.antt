@@ -5,7 +5,6 @@ use Rattle.noise_gate.specs.Answers.{told_set}
 use Rattle.noise_gate.specs.declared.Gate.{Gate}
 use Rattle.noise_gate.specs.declared.Adjustment.{Adjustment}
 use Rattle.noise_gate.specs.declared.Adjustment.TheVariants.{Done, Held, Refused}
-use borrow.Author.Rules.{rules}
 use Rattle.pcm_gate.proofs.program.after.Goals as goal
 
 -- what is told of a setting holds the gate after it

@@ -3,7 +3,6 @@ use lib.Ieee.{of_bits, neg}
 use Rattle.answer.specs.Figures.{f32}
 use Rattle.pcm_gate.specs.Program.{program_gate}
 use Rattle.answer.proofs.Answers.{state-told}
-use borrow.Author.Rules.{rules}
 use Rattle.pcm_gate.proofs.program.program_gate.Goals as goal
 
 pub returns : goal.returns

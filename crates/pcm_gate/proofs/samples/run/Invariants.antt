@@ -1,14 +1,8 @@
 -- `pcm_gate::samples::run` meets its contract. Assumes nothing.
 use Prim.Native.Nat.{◌-◌}
-use mathlib.Core.Logic.{⊎_elim}
-use mathlib.Core.Path.{◌≡◌}
-use native.Mathlib.Omega.{arith}
-use lib.ListN.{length, length-set}
-use Rattle.fold.specs.Fold.{more}
-use Rattle.fold.proofs.Block.{counts, skips}
-use borrow.Author.Rules.{rules}
+use lib.ListN.{length}
 use Rattle.pcm_gate.specs.Pass.{next, output as given, aim}
-use Rattle.pcm_gate.proofs.Pairs.{Upto, start, onward, ended}
+use Rattle.pcm_gate.proofs.Pairs.{Upto}
 use Rattle.pcm_gate.proofs.samples.run.Given as goal
 
 abbrev pub invariant-loop-i : goal.invariant-loop-i

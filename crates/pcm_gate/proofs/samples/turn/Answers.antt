@@ -2,7 +2,6 @@
 use mathlib.Core.Path.{◌∙◌}
 use Rattle.noise_gate_sample.specs.Step.{step}
 use Rattle.pcm_gate.specs.Pass.{next, output, aim}
-use borrow.Author.Rules.{rules}
 use Rattle.pcm_gate.proofs.samples.turn.Goals as goal
 
 pub returns : goal.returns

@@ -1,9 +1,7 @@
 -- `tonestack::calls::make` meets its contract. Assumes nothing.
 use mathlib.Core.Path.{sym, ◌∙◌}
-use borrow.Author.Tests.{not-true, not-false}
 use lib.Ieee.{of_bits}
 use Rattle.tonestack.specs.Calls.{made_settings, make}
-use borrow.Author.Rules.{rules}
 use Rattle.tonestack.proofs.calls.make.Goals as goal
 
 pub returns-then-not-is_rate : goal.returns-then-not-is_rate

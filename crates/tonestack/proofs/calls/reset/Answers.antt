@@ -1,9 +1,7 @@
 -- `tonestack::calls::reset` meets its contract. Assumes nothing.
 use mathlib.Core.Path.{sym, ◌∙◌}
-use borrow.Author.Tests.{not-true, not-false}
 use lib.Ieee.{of_bits}
 use Rattle.tonestack.specs.Calls.{acceptable, reset}
-use borrow.Author.Rules.{rules}
 use Rattle.tonestack.proofs.calls.reset.Goals as goal
 
 pub returns-then-not-settable : goal.returns-then-not-settable

@@ -1,8 +1,6 @@
 -- `tonestack::calls::set` meets its contract. Assumes nothing.
 use mathlib.Core.Path.{sym, ◌∙◌}
-use borrow.Author.Tests.{not-true, not-false}
 use Rattle.tonestack.specs.Calls.{acceptable, set, set_found}
-use borrow.Author.Rules.{rules}
 use Rattle.tonestack.proofs.calls.set.Goals as goal
 
 pub returns-then-not-settable : goal.returns-then-not-settable

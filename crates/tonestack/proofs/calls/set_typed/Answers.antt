@@ -1,8 +1,6 @@
 -- `tonestack::calls::set_typed` meets its contract. Assumes nothing.
 use mathlib.Core.Path.{sym, ◌∙◌}
-use borrow.Author.Tests.{not-true, not-false}
 use Rattle.tonestack.specs.Calls.{acceptable, set_typed}
-use borrow.Author.Rules.{rules}
 use Rattle.tonestack.proofs.calls.set_typed.Goals as goal
 
 pub returns-then-not-settable : goal.returns-then-not-settable

@@ -1,10 +1,6 @@
 -- `tonestack::samples::run` meets its contract. Assumes nothing.
-use Prim.Native.Nat.{◌-◌}
-use lib.ListN.{length}
 use lib.Ieee.{nan}
-use Rattle.fold.proofs.Block.{Upto, start, onward, ended}
-use borrow.Author.Rules.{rules}
-use Rattle.tonestack_sample.specs.Step.{output as given, next}
+use Rattle.fold.proofs.Block.{start, onward, ended}
 use Rattle.tonestack_sample.proofs.Once.{once-next, once-output}
 use Rattle.tonestack.proofs.samples.run.Goals as goal
 

@@ -2,7 +2,6 @@
 use lib.Ieee.{of_bits}
 use Rattle.answer.specs.Figures.{f32}
 use Rattle.tonestack_sample.specs.Alpha.{alpha}
-use borrow.Author.Rules.{rules}
 use Rattle.tonestack_sample.proofs.alpha.alpha.Goals as goal
 
 pub returns : goal.returns

@@ -2,7 +2,6 @@
 use lib.Ieee.{of_bits}
 use Rattle.answer.specs.Figures.{f32}
 use Rattle.tonestack_sample.specs.Alpha.{alphas_of}
-use borrow.Author.Rules.{rules}
 use Rattle.tonestack_sample.proofs.alpha.alphas_of.Goals as goal
 
 pub returns : goal.returns

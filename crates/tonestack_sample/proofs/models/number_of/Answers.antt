@@ -1,6 +1,5 @@
 -- `tonestack_sample::models::number_of` meets its contract. Assumes nothing.
 use Rattle.tonestack_sample.specs.Models.{number_of}
-use borrow.Author.Rules.{rules}
 use Rattle.tonestack_sample.proofs.models.number_of.Goals as goal
 
 pub returns-in-Modern : goal.returns-in-Modern

@@ -1,5 +1,4 @@
 -- `tonestack_sample::names::find` meets its contract. Assumes nothing.
-use borrow.Author.Rules.{rules}
 use Rattle.tonestack_sample.specs.Names.{named}
 use Rattle.tonestack_sample.proofs.names.find.Goals as goal
 

@@ -1,6 +1,5 @@
 -- `tonestack_sample::names::held` meets its contract. Assumes nothing.
 use Rattle.tonestack_sample.specs.Names.{kept}
-use borrow.Author.Rules.{rules}
 use Rattle.tonestack_sample.proofs.names.held.Goals as goal
 
 pub returns-in-Bass : goal.returns-in-Bass

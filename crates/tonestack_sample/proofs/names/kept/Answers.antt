@@ -1,5 +1,4 @@
 -- `tonestack_sample::names::kept` meets its contract. Assumes nothing.
-use borrow.Author.Rules.{rules}
 use Rattle.tonestack_sample.proofs.names.kept.Goals as goal
 
 pub returns : goal.returns

@@ -1,6 +1,5 @@
 -- `tonestack_sample::names::row` meets its contract. Assumes nothing.
 use mathlib.Core.Path.{sym, ◌∙◌}
-use borrow.Author.Rules.{rules}
 use Rattle.tonestack_sample.proofs.names.row.Goals as goal
 
 pub returns-then-same : goal.returns-then-same

@@ -2,7 +2,6 @@
 use lib.Ieee.{of_bits}
 use Rattle.answer.specs.Figures.{f32}
 use Rattle.tonestack_sample.specs.Ranges.{clamped}
-use borrow.Author.Rules.{rules}
 use Rattle.tonestack_sample.proofs.ranges.clamped.Goals as goal
 
 pub returns-then-v : goal.returns-then-v

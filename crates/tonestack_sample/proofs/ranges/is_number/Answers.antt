@@ -1,6 +1,5 @@
 -- `tonestack_sample::ranges::is_number` meets its contract. Assumes nothing.
 use Rattle.tonestack_sample.specs.Ranges.{is_number}
-use borrow.Author.Rules.{rules}
 use Rattle.tonestack_sample.proofs.ranges.is_number.Goals as goal
 
 pub returns : goal.returns

@@ -2,7 +2,6 @@
 use lib.Ieee.{of_bits}
 use Rattle.answer.specs.Figures.{f32}
 use Rattle.tonestack_sample.specs.Ranges.{is_control, is_factor, settable}
-use borrow.Author.Rules.{rules}
 use Rattle.tonestack_sample.proofs.ranges.settable.Goals as goal
 
 pub returns : goal.returns

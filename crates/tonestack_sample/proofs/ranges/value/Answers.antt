@@ -1,6 +1,5 @@
 -- `tonestack_sample::ranges::value` meets its contract. Assumes nothing.
 use Rattle.tonestack_sample.specs.Ranges.{value}
-use borrow.Author.Rules.{rules}
 use Rattle.tonestack_sample.proofs.ranges.value.Goals as goal
 
 pub returns-in-Bass : goal.returns-in-Bass

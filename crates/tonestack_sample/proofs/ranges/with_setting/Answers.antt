@@ -1,6 +1,5 @@
 -- `tonestack_sample::ranges::with_setting` meets its contract. Assumes nothing.
 use Rattle.tonestack_sample.specs.Ranges.{value, with_setting}
-use borrow.Author.Rules.{rules}
 use Rattle.tonestack_sample.proofs.ranges.with_setting.Goals as goal
 
 pub returns-in-Bass : goal.returns-in-Bass

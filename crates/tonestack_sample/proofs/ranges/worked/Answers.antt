@@ -2,7 +2,6 @@
 use Rattle.tonestack_sample.specs.Ranges.{is_factor, worked}
 use lib.Ieee.{of_bits}
 use Rattle.answer.specs.Figures.{f32}
-use borrow.Author.Rules.{rules}
 use Rattle.tonestack_sample.proofs.ranges.worked.Goals as goal
 
 pub returns-in-Bass : goal.returns-in-Bass

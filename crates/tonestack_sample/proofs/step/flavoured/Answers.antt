@@ -2,7 +2,6 @@
 use lib.Ieee.{of_bits}
 use Rattle.answer.specs.Figures.{f32}
 use Rattle.tonestack_sample.specs.Step.{flavoured}
-use borrow.Author.Rules.{rules}
 use Rattle.tonestack_sample.proofs.step.flavoured.Goals as goal
 
 pub returns-in-Modern : goal.returns-in-Modern

@@ -1,6 +1,5 @@
 -- `tonestack_sample::step::one_pole` meets its contract. Assumes nothing.
 use Rattle.tonestack_sample.specs.Step.{one_pole}
-use borrow.Author.Rules.{rules}
 use Rattle.tonestack_sample.proofs.step.one_pole.Goals as goal
 
 pub returns : goal.returns

@@ -2,7 +2,6 @@
 use lib.Ieee.{of_bits}
 use Rattle.answer.specs.Figures.{f32}
 use Rattle.tonestack_sample.specs.Step.{mixed, finished, dc, blocked, bass, treble, mix, presence, output_with, next_with, step_with}
-use borrow.Author.Rules.{rules}
 use Rattle.tonestack_sample.proofs.step.step_with.Goals as goal
 
 pub returns : goal.returns

@@ -1,0 +1,6 @@
+-- `hoofglaze::equalise::hoofglaze_eq_make` meets its contract. Assumes nothing.
+use mathlib.Core.Path.{◌∙◌}
+use Rattle.hoofglaze.proofs.equalise.hoofglaze_eq_make.Goals as goal
+
+pub returns : goal.returns
+returns c = c.crossed.ensures ∙ c.make.ensures
