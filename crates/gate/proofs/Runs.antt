@@ -12,7 +12,7 @@ use Rattle.gate.specs.declared.Next.{Next}
 use Rattle.gate.specs.declared.Next.TheVariants.{More, End, Failed}
 
 -- ---- what comes next is one of three
-next_more : (n : Next) → is_more n ≡ true → n ≡ More
+pub next_more : (n : Next) → is_more n ≡ true → n ≡ More
 next_more More h = refl
 next_more End h = absurd (let z : ◌≡◌ {A = ℕ} 0 1 = cc in omega arith)
 next_more Failed h = absurd (let z : ◌≡◌ {A = ℕ} 0 1 = cc in omega arith)
@@ -28,7 +28,7 @@ end_more n h e = let z : ◌≡◌ {A = ℕ} 0 1 = cc in omega arith
 pub failed-more : (n : Next) → n ≡ Failed → n ≡ More → ⊥
 failed-more n h e = let z : ◌≡◌ {A = ℕ} 0 1 = cc in omega arith
 
-failed-end : (n : Next) → n ≡ Failed → n ≡ End → ⊥
+pub failed-end : (n : Next) → n ≡ Failed → n ≡ End → ⊥
 failed-end n h e = let z : ◌≡◌ {A = ℕ} 0 1 = cc in omega arith
 
 -- ---- a run begins
@@ -42,7 +42,7 @@ begins g h = record {
 }
 
 -- ---- it goes on by a turn
-full-more : (blocks : List (List ℕ)) (b : List ℕ) → Full blocks → length b ≡ block_bytes → Full (blocks ++ (b ∷ []))
+pub full-more : (blocks : List (List ℕ)) (b : List ℕ) → Full blocks → length b ≡ block_bytes → Full (blocks ++ (b ∷ []))
 full-more [] b f h = (h, tt)
 full-more (a ∷ blocks) b f h = (f.0, full-more blocks b f.1 h)
 

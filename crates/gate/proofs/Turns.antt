@@ -35,24 +35,27 @@ module _ (g : Gate) (b out : List ℕ) (same : length b ≡ length out) where
       either true x y p q r s = refl
       either false x y p q r s = refl
 
+pub turn-is : (t r : Turn) (b out : List ℕ) (next : Next) → length b ≡ length out → Done t b out next r → r ≡ turn_of (turned (run_of t) b) next
+unfolding turned
+turn-is t r b out next same d = d.turn ∙ rw (told_same t.gate b out same, same)
+
 -- ---- over two buffers; and one of the program's own, of so many bytes
-module _ (t r : Turn) (input before output : List ℕ) where
-  pub over : (n : ℕ) (next : Next) → n ≤ length input → (next ≡ More → n ≡ length input) → length (take n input) ≡ length (take n before)
+module _ (t r : Turn) (input before : List ℕ) where
+  pub over : (n : ℕ) (next : Next) (new : List ℕ) → n ≤ length input → (next ≡ More → n ≡ length input) → length (take n input) ≡ length (take n before)
       → Done t (take n input) (take n before) next r
-      → output ≡ (pass t.gate (take n input) (take n before)).1 ++ drop n before
-      → Over t input before output r
-  unfolding turned
-  over n next most full same d given = record {
+      → new ≡ (pass t.gate (take n input) (take n before)).1
+      → Over t input before (new ++ drop n before) r
+  over n next new most full same d given = record {
     count = n;
     next = next;
     most = most;
     full = full;
-    turn = d.turn ∙ rw (told_same t.gate (take n input) (take n before) same, same);
-    given = given;
+    turn = turn-is t r (take n input) (take n before) next same d;
+    given = ap (λ (l : List ℕ). l ++ drop n before) given;
   }
 
-  pub went : length input ≡ block_bytes → Over t input before output r → Went t r
-  went long o = record {
+  pub went : (output : List ℕ) → length input ≡ block_bytes → Over t input before output r → Went t r
+  went output long o = record {
     block = take o.count input;
     next = o.next;
     most = simp length-take (omega (arith, o.most));

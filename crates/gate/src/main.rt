@@ -2,17 +2,23 @@
 // gate makes of them to standard output. A last odd byte isn't written.
 //
 // At its end it says on standard error how many samples there were and how many the gate aimed open at.
-// A program has no exit status to give, so that line stands only where all was read and written: a read
-// or a write that fails is named there instead, and ends the run.
+// That line stands, and the exit status is 0, only where all was read and written: a read or a write that
+// fails is named there instead and ends the run, and the status is 1.
+#![tactic(auto)]
+
 mod told;
 
-ghost use Rattle.std.specs.Prelude.{◌≡◌, ◌≤◌, ◌⊎◌, length};
+ghost use Rattle.std.specs.Prelude.{◌≡◌, ◌≤◌, ◌⊎◌, length, take};
+ghost use Rattle.std.specs.Io.KnownBytes.{Consumes, Appends, IsAtEnd};
 ghost use Rattle.pcm_gate.specs.Pass as Pass;
+ghost use Rattle.pcm_gate.specs.Turns.{block_bytes};
+ghost use Rattle.gate.specs.Carried.{Carried, CarriedAll, whole_samples};
 ghost use Rattle.gate.specs.Runs as Runs;
 ghost use Rattle.gate.specs.declared.Next.TheVariants as next;
 
-use libc::{STDIN_FILENO, STDOUT_FILENO};
 use noise_gate::{Gate, Passage};
+use std::io::{Read, Write};
+use std::process::ExitCode;
 
 // The gate after a block, the samples so far and how many of them were aimed open at, and what comes
 // next.
@@ -38,21 +44,22 @@ struct Filled {
     next: Next,
 }
 
-// Reads until the buffer is full, the input ends or a read fails.
-fn fill(buffer: &mut [u8]) -> Filled
-    ensures { (result.count ≤ length buffer.new) × (result.next ≡ next.More → result.count ≡ length buffer.new) }
+// Reads until the buffer is full, the input ends or a read fails. The buffer's first bytes are those that
+// were read, and nothing is left where the input has ended.
+fn fill<R: Read>(rt: &HostRuntime, from: &mut R, buffer: &mut [u8]) -> Filled
+    ensures counted { (result.count ≤ length buffer.new) × (result.next ≡ next.More → result.count ≡ length buffer.new) }
+    ensures taken { Consumes (R.remaining from.old) (R.remaining from.new) (take result.count buffer.new) }
+    ensures ended { result.next ≡ next.End → IsAtEnd (R.remaining from.new) }
 {
     let mut at: usize = 0;
     while at < buffer.len() {
-        let got = libc::read(STDIN_FILENO, &mut buffer[at..]);
-        if got < 0 {
-            told::failed(b"gate: a read failed\n");
+        let Ok(n) = from.read(&mut buffer[at..]) else {
+            told::failed(rt, b"gate: a read failed\n");
             return Filled {
                 count: at,
                 next: Next::Failed,
             };
-        }
-        let n = io::count(got, &buffer[at..]);
+        };
         if n == 0 {
             return Filled {
                 count: at,
@@ -68,10 +75,10 @@ fn fill(buffer: &mut [u8]) -> Filled
 }
 
 // Says what failed; there is no next block.
-fn failed(turn: Turn, what: &[u8]) -> Turn
+fn failed(rt: &HostRuntime, turn: Turn, what: &[u8]) -> Turn
     ensures { result ≡ Runs.stopped turn }
 {
-    told::failed(what);
+    told::failed(rt, what);
     let gate = turn.gate;
     Turn {
         gate: gate,
@@ -82,21 +89,30 @@ fn failed(turn: Turn, what: &[u8]) -> Turn
 }
 
 // A block through the gate, and what it gives written.
-fn passed(turn: Turn, input: &[u8], output: &mut [u8], next: Next) -> Turn
-    ensures { (output.new ≡ (Pass.pass turn.gate input.now output.old).1)
+fn passed<W: Write>(
+    rt: &HostRuntime,
+    to: &mut W,
+    turn: Turn,
+    input: &[u8],
+    output: &mut [u8],
+    next: Next,
+) -> Turn
+    ensures gated { (output.new ≡ (Pass.pass turn.gate input.now output.old).1)
         × ((result ≡ Runs.stopped turn) ⊎ Runs.Done turn input.now output.old next result) }
+    ensures added { (result ≡ Runs.stopped turn)
+        ⊎ Appends (W.contents to.old) (W.contents to.new) (whole_samples output.new) }
 {
     let g = turn.gate;
     let ran = pcm_gate::pass(g, input, output);
     let gate = ran.gate;
     let answer = ran.answer;
     let Passage::Done(p) = answer else {
-        return failed(turn, b"gate: a block was refused\n");
+        return failed(rt, turn, b"gate: a block was refused\n");
     };
     let whole = output.len() / 2;
     let even = whole * 2;
-    if !io::write_all(STDOUT_FILENO, &output[..even]) {
-        return failed(turn, b"gate: a write failed\n");
+    if to.write_all(&output[..even]).is_err() {
+        return failed(rt, turn, b"gate: a write failed\n");
     }
     Turn {
         gate: gate,
@@ -107,22 +123,33 @@ fn passed(turn: Turn, input: &[u8], output: &mut [u8], next: Next) -> Turn
 }
 
 // A block read into the first buffer, and passed by way of the second.
-fn block(turn: Turn, input: &mut [u8], output: &mut [u8]) -> Turn
+fn block<R: Read, W: Write>(
+    rt: &HostRuntime,
+    from: &mut R,
+    to: &mut W,
+    turn: Turn,
+    input: &mut [u8],
+    output: &mut [u8],
+) -> Turn
     requires { length input.old ≡ length output.old }
-    ensures { (result ≡ Runs.stopped turn) ⊎ Runs.Over turn input.new output.old output.new result }
+    ensures gated { (result ≡ Runs.stopped turn) ⊎ Runs.Over turn input.new output.old output.new result }
+    ensures carried { (result ≡ Runs.stopped turn)
+        ⊎ Carried turn (length input.new) (R.remaining from.old) (R.remaining from.new) (W.contents to.old) (W.contents to.new) result }
 {
-    let filled = fill(input);
+    let filled = fill(rt, from, input);
     let n = filled.count;
     let next = filled.next;
-    passed(turn, &input[..n], &mut output[..n], next)
+    passed(rt, to, turn, &input[..n], &mut output[..n], next)
 }
 
-fn one_turn(turn: Turn) -> Turn
-    ensures { Runs.OneTurn turn result }
+fn one_turn<R: Read, W: Write>(rt: &HostRuntime, from: &mut R, to: &mut W, turn: Turn) -> Turn
+    ensures gated { Runs.OneTurn turn result }
+    ensures carried { (result ≡ Runs.stopped turn)
+        ⊎ Carried turn block_bytes (R.remaining from.old) (R.remaining from.new) (W.contents to.old) (W.contents to.new) result }
 {
-    let mut input = io::buffer();
-    let mut output = io::buffer();
-    block(turn, &mut input, &mut output)
+    let mut input = [0u8; 4096];
+    let mut output = [0u8; 4096];
+    block(rt, from, to, turn, &mut input, &mut output)
 }
 
 fn goes_on(turn: Turn) -> bool
@@ -138,8 +165,9 @@ fn goes_on(turn: Turn) -> bool
 
 // A proved loop has to end, and nothing says that the input does. So the turns are counted down from a
 // number that no run uses up.
-fn run() -> Turn
-    ensures { Runs.Along result 0 }
+fn run<R: Read, W: Write>(rt: &HostRuntime, from: &mut R, to: &mut W) -> Turn
+    ensures along { Runs.Along result 0 }
+    ensures carried { CarriedAll (R.remaining from.old) (R.remaining from.new) (W.contents to.old) (W.contents to.new) result }
 {
     let mut turn = Turn {
         gate: pcm_gate::program_gate(),
@@ -149,16 +177,19 @@ fn run() -> Turn
     };
     let mut turns = u64::MAX;
     while turns > 0 && goes_on(turn) {
-        turn = one_turn(turn);
+        turn = one_turn(rt, from, to, turn);
         turns -= 1;
     }
     turn
 }
 
-fn main() {
-    let turn = run();
-    let next = turn.next;
-    if let Next::End = next {
-        told::counts(turn.samples, turn.aimed);
+fn main(rt: HostRuntime) -> ExitCode {
+    let turn = run(&rt, &mut rt.stdin(), &mut rt.stdout());
+    let Next::End = turn.next else {
+        return ExitCode::FAILURE;
+    };
+    match told::counts(&mut rt.stderr(), turn.samples, turn.aimed) {
+        Ok(()) => ExitCode::SUCCESS,
+        Err(_) => ExitCode::FAILURE,
     }
 }

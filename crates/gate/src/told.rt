@@ -1,19 +1,20 @@
 // What the program says on standard error.
+ghost use Rattle.std.specs.Prelude.{OnOk};
+ghost use Rattle.std.specs.Io.KnownBytes.{Appends};
+ghost use Rattle.gate.specs.Line.{counts_line};
 ghost use Rattle.gate.specs.Runs.{Said};
 
-use libc::STDERR_FILENO;
+use std::io;
+use std::io::Write;
 
-pub fn failed(what: &[u8]) {
-    io::write_all(STDERR_FILENO, what);
+pub fn failed(rt: &HostRuntime, what: &[u8]) {
+    let _ = rt.stderr().write_all(what);
 }
 
 // Whoever has it say two counts shows that they are those of a run to the end of the input.
-pub fn counts(samples: u64, aimed: u64)
+pub fn counts<W: Write>(to: &mut W, samples: u64, aimed: u64) -> io::Result<()>
     requires { Said samples aimed }
+    ensures { OnOk result (Appends (W.contents to.old) (W.contents to.new) (counts_line samples aimed)) }
 {
-    io::write_all(STDERR_FILENO, b"gate: ");
-    io::print_decimal(STDERR_FILENO, samples);
-    io::write_all(STDERR_FILENO, b" samples, ");
-    io::print_decimal(STDERR_FILENO, aimed);
-    io::write_all(STDERR_FILENO, b" aimed open\n");
+    writeln!(to, "gate: {samples} samples, {aimed} aimed open")
 }
