@@ -1,9 +1,8 @@
 # From lines `WHOSE FUNCTION OPERANDS INSTRUCTIONS`, and from lines `WHOSE FUNCTION OPERANDS NANOSECONDS` of the
-# second file, to bench/run's tables of the float functions. There are no nanoseconds where an emulator runs the
-# programs.
+# second file, to bench/run's tables of the float functions.
 
 FILENAME == ARGV[1] { counted[$1, $2, $3] = $4; next }
-{ took[$1, $2, $3] = $4; timed = 1 }
+{ took[$1, $2, $3] = $4 }
 
 # The call and the return are 2, and the function that only returns has them too.
 function instructions(whose, f, operands) {
@@ -79,8 +78,5 @@ END {
     unit = "instructions"
     tables()
     unit = "nanoseconds"
-    if (timed)
-        tables()
-    else
-        print "nanoseconds a call: none, as an emulator runs the programs here\n"
+    tables()
 }

@@ -19,5 +19,5 @@ NF == 6 {
 END {
     line("all", all[2], all[3], all[4], all[5], all[6], measured ? sprintf("%.1f", time) : "-")
     if (!measured)
-        print "seconds to prove each crate: bench/run seconds, which takes minutes"
+        print "seconds to prove each crate: bench/run seconds, which takes long"
 }

@@ -1,9 +1,8 @@
 # From lines `WHOSE ROW INSTRUCTIONS`, and from lines `WHOSE ROW NANOSECONDS` of the second file, to bench/run's
-# tables of the stages. The variable compiler names the machine's. There are no nanoseconds where an emulator runs
-# the programs.
+# tables of the stages. The variable compiler names the machine's.
 
 FILENAME == ARGV[1] { counted[$1, $2] = $3; next }
-{ took[$1, $2] = $3; timed = 1 }
+{ took[$1, $2] = $3 }
 
 # A step's call, its return and the answer's place are 3, and the function that only returns has them too.
 function instructions(whose, row, more) {
@@ -64,8 +63,5 @@ END {
         print "no hardware fma: the counter offers the program no such instruction here"
     print ""
     unit = "nanoseconds"
-    if (timed)
-        table()
-    else
-        print "nanoseconds a sample: none, as an emulator runs the programs here"
+    table()
 }

@@ -1,5 +1,5 @@
 # From lines `WHOSE ROW INSTRUCTIONS`, and from lines `WHOSE ROW NANOSECONDS` of the second file, to bench/run's table of
-# the recordings that are written. There are no nanoseconds where an emulator runs the programs.
+# the recordings that are written.
 
 FILENAME == ARGV[1] { counted[$1, $2] = $3; next }
 { took[$1, $2] = $3 }
