@@ -10,20 +10,20 @@ use Rattle.answer.specs.declared.Answer.{Answer}
 use Rattle.answer.specs.declared.Answer.TheVariants as answer
 use Rattle.answer.specs.declared.Reading.{Reading}
 use Rattle.answer.specs.declared.Reading.TheVariants as reading
-use Rattle.answer.proofs.Refusals.{one-to-one, never-nought}
+use Rattle.answer.proofs.Refusals.{one-to-one, never_nought}
 
 module _ {S : Type 0} {s t : S} where
   pub answer_back : (a b : Answer) → told s a ≡ told t b → (s ≡ t) × (a ≡ b)
   answer_back answer.Done answer.Done e = (ap (λ (w : Told S). w.state) e, refl)
-  answer_back answer.Done (answer.Refused r) e = absurd (never-nought r (ap (λ (w : Told S). w.number) e))
-  answer_back (answer.Refused q) answer.Done e = absurd (never-nought q (sym (ap (λ (w : Told S). w.number) e)))
+  answer_back answer.Done (answer.Refused r) e = absurd (never_nought r (ap (λ (w : Told S). w.number) e))
+  answer_back (answer.Refused q) answer.Done e = absurd (never_nought q (sym (ap (λ (w : Told S). w.number) e)))
   answer_back (answer.Refused q) (answer.Refused r) e =
       (ap (λ (w : Told S). w.state) e, ap answer.Refused (one-to-one q r (ap (λ (w : Told S). w.number) e) (ap (λ (w : Told S). w.place) e)))
 
   pub reading-back : (a b : Reading) → told_read s a ≡ told_read t b → (s ≡ t) × (a ≡ b)
   reading-back (reading.Done x) (reading.Done y) e = (ap (λ (w : Told S). w.state) e, ap reading.Done (ap (λ (w : Told S). w.value) e))
-  reading-back (reading.Done x) (reading.Refused r) e = absurd (never-nought r (ap (λ (w : Told S). w.number) e))
-  reading-back (reading.Refused q) (reading.Done y) e = absurd (never-nought q (sym (ap (λ (w : Told S). w.number) e)))
+  reading-back (reading.Done x) (reading.Refused r) e = absurd (never_nought r (ap (λ (w : Told S). w.number) e))
+  reading-back (reading.Refused q) (reading.Done y) e = absurd (never_nought q (sym (ap (λ (w : Told S). w.number) e)))
   reading-back (reading.Refused q) (reading.Refused r) e =
       (ap (λ (w : Told S). w.state) e, ap reading.Refused (one-to-one q r (ap (λ (w : Told S). w.number) e) (ap (λ (w : Told S). w.place) e)))
 

@@ -31,16 +31,16 @@ pub one-to-one : (q r : Refusal) → number q ≡ number r → place q ≡ place
 one-to-one q r n i = cc (back q, back r)
 
 -- 0 is done
-pub never-nought : (r : Refusal) → 0 ≡ number r → ⊥
-never-nought NoSetting e = omega arith
-never-nought NoBand e = omega arith
-never-nought OutOfRange e = omega arith
-never-nought BadWorkedNumber e = omega arith
-never-nought BadRate e = omega arith
-never-nought (BadSample i) e = omega arith
-never-nought LengthsDiffer e = omega arith
-never-nought TooLong e = omega arith
-never-nought BadState e = omega arith
+pub never_nought : (r : Refusal) → 0 ≡ number r → ⊥
+never_nought NoSetting e = omega arith
+never_nought NoBand e = omega arith
+never_nought OutOfRange e = omega arith
+never_nought BadWorkedNumber e = omega arith
+never_nought BadRate e = omega arith
+never_nought (BadSample i) e = omega arith
+never_nought LengthsDiffer e = omega arith
+never_nought TooLong e = omega arith
+never_nought BadState e = omega arith
 
 pub not_done : (r : Refusal) → eqb (number r) 0 ≡ false
-not_done r = ne_eqb (number r) 0 (λ e. never-nought r (sym e))
+not_done r = ne_eqb (number r) 0 (λ e. never_nought r (sym e))

@@ -25,9 +25,9 @@ all-rise : T (rising table)
 unfolding table table_bits of_bits le
 all-rise = tt
 
-pub never-falls : (i : ℕ) → suc i < 256 → T (le (entry i) (entry (suc i)))
+pub never_falls : (i : ℕ) → suc i < 256 → T (le (entry i) (entry (suc i)))
 unfolding entry table table_bits
-never-falls i h = rising-at nan table all-rise i h
+never_falls i h = rising-at nan table all-rise i h
 
 pub within : (i : ℕ) → i < 256 → T (le minus_one (entry i)) × T (le (entry i) one)
 unfolding entry table table_bits

@@ -12,7 +12,7 @@ pub struct Long {
 pub fn times(a: u64, b: u64) -> Long
     requires a_bound { a < 2 ^ 53 }
     requires b_bound { b < 2 ^ 53 }
-    ensures lo_value { result.hi * 2 ^ 64 + result.lo ≡ a * b }
+    ensures value { result.hi * 2 ^ 64 + result.lo ≡ a * b }
     ensures lo_bound { result.lo < 2 ^ 64 }
 {
     let ah = a >> 32;
@@ -31,9 +31,9 @@ pub fn times(a: u64, b: u64) -> Long
 
 // q * 2 ^ (64 - t)
 pub fn placed(q: u64, t: u64) -> Long
-    requires le_t { 3 ≤ t }
+    requires t_least { 3 ≤ t }
     requires t_bound { t ≤ 63 }
-    ensures lo_value { result.hi * 2 ^ 64 + result.lo ≡ q * 2 ^ (64 - t) }
+    ensures value { result.hi * 2 ^ 64 + result.lo ≡ q * 2 ^ (64 - t) }
     ensures hi_bound { result.hi < 2 ^ 61 }
 {
     Long {
@@ -45,7 +45,7 @@ pub fn placed(q: u64, t: u64) -> Long
 pub fn plus(ah: u64, al: u64, bh: u64, bl: u64) -> Long
     requires ah_bound { ah < 2 ^ 43 }
     requires bh_bound { bh < 2 ^ 61 }
-    ensures lo_value { result.hi * 2 ^ 64 + result.lo ≡ ah * 2 ^ 64 + al + (bh * 2 ^ 64 + bl) }
+    ensures value { result.hi * 2 ^ 64 + result.lo ≡ ah * 2 ^ 64 + al + (bh * 2 ^ 64 + bl) }
     ensures hi_bound { result.hi < 2 ^ 62 }
     ensures ah_le_hi { ah ≤ result.hi }
 {
@@ -71,7 +71,7 @@ fn lacks(a: u64, b: u64) -> u64
 
 pub fn minus(ah: u64, al: u64, bh: u64, bl: u64) -> Long
     requires { bh < ah }
-    ensures lo_value { result.hi * 2 ^ 64 + result.lo ≡ ah * 2 ^ 64 + al - (bh * 2 ^ 64 + bl) }
+    ensures value { result.hi * 2 ^ 64 + result.lo ≡ ah * 2 ^ 64 + al - (bh * 2 ^ 64 + bl) }
     ensures hi_le_ah { result.hi ≤ ah }
 {
     Long {
@@ -97,7 +97,7 @@ pub fn top(hi: u64, lo: u64) -> bits::Part
     ensures m_least { 2 ^ 62 ≤ result.m }
     ensures m_bound { result.m < 2 ^ 63 }
     ensures sticky { Steps.Sticky result.m (hi * 2 ^ 64 + lo) (2 ^ (64 - result.k)) }
-    ensures le_k { 1 ≤ result.k }
+    ensures k_least { 1 ≤ result.k }
     ensures k_bound { result.k ≤ 62 }
 {
     let t = u64::leading_zeros(hi) as u64 - 1;

@@ -51,7 +51,7 @@ fn kept(m: u64) -> u64
 fn normal(s: bool, hi: u64, lo: u64, x: u64) -> f64
     requires hi_nonzero { 0 < hi }
     requires hi_bound { hi < 2 ^ 62 }
-    requires le_x { 1065 ≤ x }
+    requires x_least { 1065 ≤ x }
     requires x_bound { x ≤ 3048 }
     ensures { result ≡ round binary64 s ((hi * 2 ^ 64 + lo) * 2 ^ (x - 2)) (2 ^ 2148) }
 {
@@ -77,7 +77,7 @@ fn joined(
     requires ph_nonzero { 0 < ph }
     requires ph_bound { ph < 2 ^ 43 }
     requires vh_bound { vh < 2 ^ 61 }
-    requires le_x { 1065 ≤ x }
+    requires x_least { 1065 ≤ x }
     requires x_bound { x ≤ 3048 }
     ensures { result ≡ fma binary64 a b c }
 {

@@ -56,7 +56,7 @@ fn signed(s: bool, b: u64) -> f64
 fn made(s: bool, hi: u64, lo: u64, e: u64) -> f64
     requires hi_bound { hi < 2 ^ 63 }
     requires lo_bound { lo < 2 ^ 62 }
-    requires le_e { 62 ≤ e }
+    requires e_least { 62 ≤ e }
     requires e_bound { e < 4200 }
     ensures { result ≡ round binary64 s ((hi * 2 ^ 62 + lo) * 2 ^ e) (2 ^ 2166) }
 {
@@ -122,7 +122,7 @@ fn total(s: bool, t: bool, uh: u64, ul: u64, vh: u64, vl: u64, e: u64) -> f64
     requires ul_bound { ul < 2 ^ 62 }
     requires vh_bound { vh < 2 ^ 62 }
     requires vl_bound { vl < 2 ^ 62 }
-    requires le_e { 62 ≤ e }
+    requires e_least { 62 ≤ e }
     requires e_bound { e < 4200 }
     ensures { result ≡ sum binary64 s ((uh * 2 ^ 62 + ul) * 2 ^ e) t ((vh * 2 ^ 62 + vl) * 2 ^ e) (2 ^ 2166) }
 {

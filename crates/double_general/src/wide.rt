@@ -15,7 +15,7 @@ const HALF: u64 = 0x8000_0000;
 pub fn times(a: u64, b: u64) -> Wide
     requires a_bound { a < 2 ^ 62 }
     requires b_bound { b < 2 ^ 62 }
-    ensures lo_value { result.hi * 2 ^ 62 + result.lo ≡ a * b }
+    ensures value { result.hi * 2 ^ 62 + result.lo ≡ a * b }
     ensures lo_bound { result.lo < 2 ^ 62 }
 {
     let ah = a / HALF;
@@ -34,7 +34,7 @@ pub fn times(a: u64, b: u64) -> Wide
 pub fn sticky(hi: u64, lo: u64, s: u64) -> Wide
     requires hi_bound { hi < 2 ^ 62 }
     requires lo_bound { lo < 2 ^ 62 }
-    ensures lo_value { result.hi * 2 ^ 62 + result.lo ≡ Steps.stick (hi * 2 ^ 62 + lo) s }
+    ensures value { result.hi * 2 ^ 62 + result.lo ≡ Steps.stick (hi * 2 ^ 62 + lo) s }
     ensures result_bound { result.lo < 2 ^ 62 }
 {
     if s >= 62 {
@@ -64,7 +64,7 @@ pub fn plus(ah: u64, al: u64, bh: u64, bl: u64) -> Wide
     requires al_bound { al < 2 ^ 62 }
     requires bh_bound { bh < 2 ^ 62 }
     requires bl_bound { bl < 2 ^ 62 }
-    ensures lo_value { result.hi * 2 ^ 62 + result.lo ≡ ah * 2 ^ 62 + al + (bh * 2 ^ 62 + bl) }
+    ensures value { result.hi * 2 ^ 62 + result.lo ≡ ah * 2 ^ 62 + al + (bh * 2 ^ 62 + bl) }
     ensures lo_bound { result.lo < 2 ^ 62 }
     ensures hi_bound { result.hi < 2 ^ 63 }
 {
@@ -90,7 +90,7 @@ pub fn minus(ah: u64, al: u64, bh: u64, bl: u64) -> Wide
     requires al_bound { al < 2 ^ 62 }
     requires bl_bound { bl < 2 ^ 62 }
     requires b_le_a { bh * 2 ^ 62 + bl ≤ ah * 2 ^ 62 + al }
-    ensures lo_value { result.hi * 2 ^ 62 + result.lo ≡ ah * 2 ^ 62 + al - (bh * 2 ^ 62 + bl) }
+    ensures value { result.hi * 2 ^ 62 + result.lo ≡ ah * 2 ^ 62 + al - (bh * 2 ^ 62 + bl) }
     ensures lo_bound { result.lo < 2 ^ 62 }
     ensures hi_le_ah { result.hi ≤ ah }
 {
@@ -132,10 +132,10 @@ fn lifted(hi: u64, lo: u64, e: u64) -> bits::Part
 
 // The same for a number that is not 0.
 pub fn top(hi: u64, lo: u64, e: u64) -> bits::Part
-    requires lo_nonzero { 0 < hi * 2 ^ 62 + lo }
+    requires positive { 0 < hi * 2 ^ 62 + lo }
     requires hi_bound { hi < 2 ^ 63 }
     requires lo_bound { lo < 2 ^ 62 }
-    requires le_e { 62 ≤ e }
+    requires e_least { 62 ≤ e }
     requires e_bound { e < 2 ^ 32 }
     ensures m_least { 2 ^ 62 ≤ result.m }
     ensures m_bound { result.m < 2 ^ 63 }

@@ -106,9 +106,9 @@ apart Exact Cut e = absurd (omega arith)
 apart Cut Exact e = absurd (omega arith)
 apart Cut Cut e = refl
 
-never-nought : (w : Exactness) → number w ≡ 0 → ⊥
-never-nought Exact e = omega arith
-never-nought Cut e = omega arith
+never_nought : (w : Exactness) → number w ≡ 0 → ⊥
+never_nought Exact e = omega arith
+never_nought Cut e = omega arith
 
 pub words : Words
-words = record { apart = apart; never-nought = never-nought }
+words = record { apart = apart; never_nought = never_nought }

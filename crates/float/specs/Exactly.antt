@@ -23,4 +23,4 @@ pub record ThrownAway : Type 0 where
 -- no two words have one number, and none has 0, which is no word
 pub record Words : Type 0 where
   pub apart : (v w : Exactness) → number v ≡ number w → v ≡ w
-  pub never-nought : (w : Exactness) → number w ≢ 0
+  pub never_nought : (w : Exactness) → number w ≢ 0

@@ -15,7 +15,7 @@ use Rattle.answer.specs.Blocks.{BlockUnchanged, checked_block}
 use Rattle.answer.specs.Told.{Told, refused, where_done}
 use Rattle.answer.specs.declared.Refusal.{Refusal}
 use Rattle.answer.specs.declared.Refusal.TheVariants.{LengthsDiffer, BadState}
-use Rattle.answer.proofs.Refusals.{never-nought, not_done}
+use Rattle.answer.proofs.Refusals.{never_nought, not_done}
 use Rattle.answer.proofs.Told.{block-by}
 use Rattle.fold.specs.Fold.{more, out_after, count_after}
 use Rattle.fold.proofs.Parts.{out-length}
@@ -136,7 +136,7 @@ module _ (g : Gate) (xs out : List Float) (aims : List ℕ) where
   bytes : let t = block_recorded g xs out aims in t.0.number ≡ 0 → t.2 ≡ out_after (next g.settings) (byte_at g.settings) g.registers xs
   bytes =
       recorded-by (λ t. t.0.number ≡ 0 → t.2 ≡ out_after (next g.settings) (byte_at g.settings) g.registers xs)
-      (λ r z. absurd (never-nought r (sym z)))
+      (λ r z. absurd (never_nought r (sym z)))
       (λ _ _. refl)
 
   as_long : length (block_recorded g xs out aims).2 ≡ length aims
@@ -147,11 +147,11 @@ module _ (g : Gate) (xs out : List Float) (aims : List ℕ) where
   count : let t = block_recorded g xs out aims in t.0.number ≡ 0 → sum t.2 ≡ t.0.count
   count =
       recorded-by (λ t. t.0.number ≡ 0 → sum t.2 ≡ t.0.count)
-      (λ r z. absurd (never-nought r (sym z)))
+      (λ r z. absurd (never_nought r (sym z)))
       (λ _ _. sums g.settings g.registers xs)
 
   lengths : (block_recorded g xs out aims).0.number ≡ 0 → length xs ≡ length aims
-  lengths = recorded-by (λ t. t.0.number ≡ 0 → length xs ≡ length aims) (λ r z. absurd (never-nought r (sym z))) (λ e _. e)
+  lengths = recorded-by (λ t. t.0.number ≡ 0 → length xs ≡ length aims) (λ r z. absurd (never_nought r (sym z))) (λ e _. e)
 
   heard_all : (block_recorded g xs out aims).0.number ≡ 0 → (past : List Sample) → samples_after g (Block xs out) past ≡ heard g.settings g.registers xs past
   unfolding samples_after answered

@@ -171,9 +171,9 @@ whole-most most (fin s m e) = omega arith
 
 -- ---- the word that is written
 module _ (y : Float) where
-  pub below-zero : lt y nought ≡ true → (0x1_0000 - whole_size lowest (absolute y)) % 0x1_0000 ≡ word_of (to_whole y)
+  pub below_zero : lt y nought ≡ true → (0x1_0000 - whole_size lowest (absolute y)) % 0x1_0000 ≡ word_of (to_whole y)
   unfolding to_whole
-  below-zero h = rw (h, whole-absolute lowest y) (minus-word (whole_size lowest y) (le_trans (whole-most lowest y) (lit≤ tt)))
+  below_zero h = rw (h, whole-absolute lowest y) (minus-word (whole_size lowest y) (le_trans (whole-most lowest y) (lit≤ tt)))
 
   pub not-below-zero : lt y nought ≡ false → whole_size highest y ≡ word_of (to_whole y)
   unfolding to_whole word_of

@@ -20,7 +20,7 @@ use Rattle.promises.proofs.Clipper.Range.{process-between}
 use Rattle.promises.proofs.Clipper.Done.{written}
 
 pub table-rule : TableRule
-table-rule = record { first = rule.first; last = rule.last; never-falls = rule.never-falls }
+table-rule = record { first = rule.first; last = rule.last; never_falls = rule.never_falls }
 
 pub refusals : Refusals
 unfolding block

@@ -56,7 +56,7 @@ module _ (e : Equaliser) where
 pub refusals : Refusals
 unfolding set read reset block
 refusals = record {
-  set-band = band-unchanged;
+  set_band = band-unchanged;
   set = λ e name value numbers. unchanged-test (acceptable e) BadState (found-unchanged e (named name value numbers));
   read = λ e name. unchanged-test (acceptable e) BadState (read-unchanged e (index_of name));
   reset = λ e. unchanged-test (acceptable e) BadState (unchanged-done refl);
@@ -72,7 +72,7 @@ pub unmade-kept : Unmade
 unfolding make set_band set read reset block checked_block
 unmade-kept = record {
   make = λ rate. unchanged-test (is_rate rate) BadRate (unchanged-done refl);
-  set-band = λ i value numbers. rw unmade-refused;
+  set_band = λ i value numbers. rw unmade-refused;
   set = λ name value numbers. rw unmade-refused;
   read = λ name. rw unmade-refused;
   reset = rw unmade-refused;
@@ -147,14 +147,14 @@ pub accepted : Accepted
 unfolding acceptable
 accepted = record {
   make = made-settable;
-  set-band = λ e i value numbers a. band-accepted e a i value numbers;
+  set_band = λ e i value numbers a. band-accepted e a i value numbers;
   set = λ e name value numbers a. named-accepted e a name value numbers;
   reset = λ e. ap settable (reset-kept e);
   block = λ e xs out. ap settable (block-kept e xs out);
 }
 
 pub exactly : Exactly
-exactly = record { could-be-set = reached }
+exactly = record { could_be_set = reached }
 
 pub answers : Answers
 answers = record { answer = λ e f. answer_back; reading = λ e f. reading-back }

@@ -95,7 +95,7 @@ accepted = record {
 
 reached-settable : (s : Settings) → Reached s → T (settable s)
 reached-settable s r =
-    let k = carried_on r.rate r.rising r.falling r.by-f32.0 r.made r.since r.by-f32.1 in
+    let k = carried_on r.rate r.rising r.falling r.by_f32.0 r.made r.since r.by_f32.1 in
     subst (λ (t : Settings). T (settable t)) r.left (settable-is (carried (calls.make r.rate r.rising r.falling).state r.since).settings k.settable)
 
 pub exactly : Exactly
@@ -120,9 +120,9 @@ pub each-sample : EachSample
 unfolding acceptable f32
 each-sample = record {
   holds = λ s m x h.
-      let numbers = h.by-f32.1 in
+      let numbers = h.by_f32.1 in
       let fx = and_l (fits binary32 x) true (and_r (fits binary32 m.level) (all_f32 (x ∷ [])) numbers) in
-      sample-holds s m x (is-settable s (and_l (settable s) (in_bounds m) h.accepted) h.by-f32.0)
+      sample-holds s m x (is-settable s (and_l (settable s) (in_bounds m) h.accepted) h.by_f32.0)
       (is-bounded m (and_r (settable s) (in_bounds m) h.accepted) (and_l (fits binary32 m.level) (all_f32 (x ∷ [])) numbers)) fx (accepted-size x h.sample);
 }
 

@@ -15,7 +15,7 @@ use Rattle.answer.specs.Blocks.{checked_block}
 use Rattle.answer.specs.declared.Refusal.TheVariants.{OutOfRange, BadWorkedNumber, BadRate, BadState}
 use Rattle.answer.proofs.Told.{unchanged-done, unchanged-test, block-unchanged}
 use Rattle.answer.proofs.Answers.{answer_back, reading-back}
-use Rattle.answer.proofs.Refusals.{one-to-one, never-nought}
+use Rattle.answer.proofs.Refusals.{one-to-one, never_nought}
 use Rattle.noise_gate_settings.specs.Ranges.{in_its_range, worked, settable}
 use Rattle.noise_gate_settings.specs.Names.{named}
 use Rattle.noise_gate_settings.specs.declared.Setting.{Setting}
@@ -87,7 +87,7 @@ accepted = record {
   carried_on = λ rate rising falling f d cs fs.
       let k = along (λ _ _. Unit {0}) tt (λ _ _ _ _ _ _ _ _ _. tt) rate rising falling f d cs fs in
       accepts (carried (calls.make rate rising falling).state cs) k.settable k.bounded;
-  hold-samples = accepted-hold;
+  hold_in_samples = accepted-hold;
 }
 
 pub exactly : Exactly
@@ -111,16 +111,16 @@ hold-told = record { typed = hold-said; by_name = hold-named; only = λ g c. (te
 module _ {g h : Gate} where
   setting-back : (a b : Adjustment) → told_set g a ≡ told_set h b → (g ≡ h) × (a ≡ b)
   setting-back adjustment.Done adjustment.Done e = (ap (λ (t : Told Gate). t.state) e, refl)
-  setting-back adjustment.Done (adjustment.Held k) e = absurd (words.never-nought k.word (sym (ap (λ (t : Told Gate). t.word) e)))
-  setting-back adjustment.Done (adjustment.Refused r) e = absurd (never-nought r (ap (λ (t : Told Gate). t.number) e))
-  setting-back (adjustment.Held k) adjustment.Done e = absurd (words.never-nought k.word (ap (λ (t : Told Gate). t.word) e))
+  setting-back adjustment.Done (adjustment.Held k) e = absurd (words.never_nought k.word (sym (ap (λ (t : Told Gate). t.word) e)))
+  setting-back adjustment.Done (adjustment.Refused r) e = absurd (never_nought r (ap (λ (t : Told Gate). t.number) e))
+  setting-back (adjustment.Held k) adjustment.Done e = absurd (words.never_nought k.word (ap (λ (t : Told Gate). t.word) e))
   setting-back (adjustment.Held k) (adjustment.Held l) e =
       let whole : k.whole ≡ l.whole = ap (λ (t : Told Gate). t.samples) e in
       let word = words.apart k.word l.word (ap (λ (t : Told Gate). t.word) e) in
       (ap (λ (t : Told Gate). t.state) e, ap adjustment.Held (rw (← whole, ← word)))
-  setting-back (adjustment.Held k) (adjustment.Refused r) e = absurd (never-nought r (ap (λ (t : Told Gate). t.number) e))
-  setting-back (adjustment.Refused q) adjustment.Done e = absurd (never-nought q (sym (ap (λ (t : Told Gate). t.number) e)))
-  setting-back (adjustment.Refused q) (adjustment.Held k) e = absurd (never-nought q (sym (ap (λ (t : Told Gate). t.number) e)))
+  setting-back (adjustment.Held k) (adjustment.Refused r) e = absurd (never_nought r (ap (λ (t : Told Gate). t.number) e))
+  setting-back (adjustment.Refused q) adjustment.Done e = absurd (never_nought q (sym (ap (λ (t : Told Gate). t.number) e)))
+  setting-back (adjustment.Refused q) (adjustment.Held k) e = absurd (never_nought q (sym (ap (λ (t : Told Gate). t.number) e)))
   setting-back (adjustment.Refused q) (adjustment.Refused r) e =
       (ap (λ (t : Told Gate). t.state) e, ap adjustment.Refused (one-to-one q r (ap (λ (t : Told Gate). t.number) e) (ap (λ (t : Told Gate). t.place) e)))
 
@@ -129,8 +129,8 @@ module _ {g h : Gate} where
       let count : p.count ≡ q.count = ap (λ (t : Told Gate). t.count) e in
       let quiet : p.quiet ≡ q.quiet = ap (λ (t : Told Gate). t.quiet) e in
       (ap (λ (t : Told Gate). t.state) e, ap Done (rw (← count, ← quiet)))
-  passage-back (Done p) (Refused r) e = absurd (never-nought r (ap (λ (t : Told Gate). t.number) e))
-  passage-back (Refused q) (Done p) e = absurd (never-nought q (sym (ap (λ (t : Told Gate). t.number) e)))
+  passage-back (Done p) (Refused r) e = absurd (never_nought r (ap (λ (t : Told Gate). t.number) e))
+  passage-back (Refused q) (Done p) e = absurd (never_nought q (sym (ap (λ (t : Told Gate). t.number) e)))
   passage-back (Refused q) (Refused r) e =
       (ap (λ (t : Told Gate). t.state) e, ap Refused (one-to-one q r (ap (λ (t : Told Gate). t.number) e) (ap (λ (t : Told Gate). t.place) e)))
 

@@ -13,7 +13,7 @@ use Rattle.answer.specs.Refusals.{number}
 use Rattle.answer.specs.Told.{Told, refused, done, unless, Unchanged}
 use Rattle.answer.specs.declared.Refusal.TheVariants.{OutOfRange, BadWorkedNumber, BadRate, BadState}
 use Rattle.answer.proofs.Answers.{answer_back, reading-back}
-use Rattle.answer.proofs.Refusals.{never-nought}
+use Rattle.answer.proofs.Refusals.{never_nought}
 use Rattle.answer.proofs.Told.{unchanged-done, unchanged-test, block-by, block-unchanged}
 use Rattle.multiband_saturator_settings.specs.Ranges.{in_its_range, worked, with_setting, lent, settable}
 use Rattle.multiband_saturator_settings.specs.Names.{named}
@@ -101,8 +101,8 @@ made-accepted rate low high attack release blocker = go (is_rate rate) (lent low
     told a b = unless a (refused unmade BadRate) (unless b (refused unmade BadWorkedNumber) (done (made rate low high attack release blocker)))
 
     go : (a b : Bool) → is_rate rate ≡ a → lent low high attack release blocker ≡ b → (told a b).number ≡ 0 → settable (told a b).state.settings ≡ true
-    go false b p q e = absurd (never-nought BadRate (sym e))
-    go true false p q e = absurd (never-nought BadWorkedNumber (sym e))
+    go false b p q e = absurd (never_nought BadRate (sym e))
+    go true false p q e = absurd (never_nought BadWorkedNumber (sym e))
     go true true p q e = made-settable rate low high attack release blocker p q
 
 module _ (s : Saturator) where
@@ -131,7 +131,7 @@ accepted = record {
 }
 
 pub exactly : Exactly
-exactly = record { could-be-set = reached }
+exactly = record { could_be_set = reached }
 
 pub answers : Answers
 answers = record { answer = λ s t. answer_back; reading = λ s t. reading-back }

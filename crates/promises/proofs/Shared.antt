@@ -24,8 +24,8 @@ blocks next out test = record { each = out_at next out; count = count_most next 
 
 pub rounding : (f : Format) → Rounding f
 rounding f = record {
-  fraction-alone = laws.fraction-alone f;
-  keeps-what-fits = laws.keeps-what-fits f;
-  keeps-order = laws.keeps-order f;
-  stays-at-one = λ c fit above below. smoothing.stays-at-one f c (record { fit = fit; above = above; below = below });
+  fraction_alone = laws.fraction_alone f;
+  keeps_what_fits = laws.keeps_what_fits f;
+  keeps_order = laws.keeps_order f;
+  stays_at_one = λ c fit above below. smoothing.stays_at_one f c (record { fit = fit; above = above; below = below });
 }

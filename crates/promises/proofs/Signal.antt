@@ -24,9 +24,9 @@ use Rattle.promises.proofs.Clipper.Done.{done-is}
 use Rattle.promises.proofs.Signal.Cut.{checked-cut, stage}
 
 -- ---- the stages: each takes its state apart by its own two fields, and all but the gate count nothing
-noise-gate : AnyCut gate.block
+noise_gate : AnyCut gate.block
 unfolding gate.block count_after
-noise-gate =
+noise_gate =
     checked-cut
     (stage gate.gate_of (λ g. g.settings) (λ g. g.registers) (λ _ _. refl) (λ _ _. refl) (λ _. refl) gate-step.next gate-step.output
     (λ c. count_after (gate-step.next c) (gate-step.aim c)) (λ _ _. refl) (λ c. count-parts (gate-step.next c) (gate-step.aim c)))
@@ -41,9 +41,9 @@ equaliser =
     (λ _. 0)
     eq-states.acceptable
 
-tone-stack : AnyCut tonestack.block
+tone_stack : AnyCut tonestack.block
 unfolding tonestack.block
-tone-stack =
+tone_stack =
     checked-cut
     (stage tonestack.tone_of (λ t. t.settings) (λ t. t.registers) (λ _ _. refl) (λ _ _. refl) (λ _. refl) _ _ (λ _ _ _. 0) (λ _ _. refl) (λ _ _ _ _. refl))
     (λ _. 0)
@@ -82,9 +82,9 @@ module _ (kind : Kind) (drive : Float) where
 
 pub signals : Signals
 signals = record {
-  noise-gate = noise-gate;
+  noise_gate = noise_gate;
   equaliser = equaliser;
-  tone-stack = tone-stack;
+  tone_stack = tone_stack;
   saturator = multiband;
   leveller = levelling;
   clipper = λ kind drive bs cs d e same. clipped-is kind drive bs d ∙ ap (clipper.processed kind drive) same ∙ sym (clipped-is kind drive cs e);

@@ -120,7 +120,7 @@ accepted = record {
 }
 
 pub exactly : Exactly
-exactly = record { could-be-set = reached }
+exactly = record { could_be_set = reached }
 
 pub answers : Answers
 answers = record { answer = λ t u. answer_back; reading = λ t u. reading-back }

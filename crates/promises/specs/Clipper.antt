@@ -15,7 +15,7 @@ use Rattle.clipper.specs.declared.Kind.{Kind}
 pub record TableRule : Type 0 where
   pub first : entry 0 ≡ minus_one
   pub last : entry 255 ≡ one
-  pub never-falls : (i : ℕ) → suc i < 256 → T (le (entry i) (entry (suc i)))
+  pub never_falls : (i : ℕ) → suc i < 256 → T (le (entry i) (entry (suc i)))
 
 -- "No refusal changes a state or an output buffer": a clipper has no state, and its output is what a call changes
 pub record Refusals : Type 0 where

@@ -17,7 +17,7 @@ use Rattle.eq.specs.declared.Equaliser.{Equaliser}
 
 -- "No refusal changes a state or an output buffer."
 pub record Refusals : Type 0 where
-  pub set-band : (e : Equaliser) (i : ℕ) (value : Decibels) (numbers : Numbers) → Unchanged e (calls.set_band e i value numbers)
+  pub set_band : (e : Equaliser) (i : ℕ) (value : Decibels) (numbers : Numbers) → Unchanged e (calls.set_band e i value numbers)
   pub set : (e : Equaliser) (name : List ℕ) (value : Decibels) (numbers : Numbers) → Unchanged e (calls.set e name value numbers)
   pub read : (e : Equaliser) (name : List ℕ) → Unchanged e (calls.read e name)
   pub reset : (e : Equaliser) → Unchanged e (calls.reset e)
@@ -26,7 +26,7 @@ pub record Refusals : Type 0 where
 -- "A refused making gives a state whose numbers are all 0, the rate too, which 9 refuses ever after."
 pub record Unmade : Type 0 where
   pub make : (rate : Float) → Unchanged unmade (calls.make rate)
-  pub set-band : (i : ℕ) (value : Decibels) (numbers : Numbers) → calls.set_band unmade i value numbers ≡ refused unmade BadState
+  pub set_band : (i : ℕ) (value : Decibels) (numbers : Numbers) → calls.set_band unmade i value numbers ≡ refused unmade BadState
   pub set : (name : List ℕ) (value : Decibels) (numbers : Numbers) → calls.set unmade name value numbers ≡ refused unmade BadState
   pub read : (name : List ℕ) → calls.read unmade name ≡ refused unmade BadState
   pub reset : calls.reset unmade ≡ refused unmade BadState
@@ -35,7 +35,7 @@ pub record Unmade : Type 0 where
 -- 9 strikes no equaliser that was made: it accepts what a making that is done and every later call leave
 pub record Accepted : Type 0 where
   pub make : (rate : Float) → (calls.make rate).number ≡ 0 → acceptable (calls.make rate).state ≡ true
-  pub set-band : (e : Equaliser) (i : ℕ) (value : Decibels) (numbers : Numbers) → acceptable e ≡ true → acceptable (calls.set_band e i value numbers).state ≡ true
+  pub set_band : (e : Equaliser) (i : ℕ) (value : Decibels) (numbers : Numbers) → acceptable e ≡ true → acceptable (calls.set_band e i value numbers).state ≡ true
   pub set : (e : Equaliser) (name : List ℕ) (value : Decibels) (numbers : Numbers) → acceptable e ≡ true → acceptable (calls.set e name value numbers).state ≡ true
   pub reset : (e : Equaliser) → acceptable (calls.reset e).state ≡ acceptable e
   pub block : (e : Equaliser) (xs out : List Float) → acceptable (calls.block e xs out).0.state ≡ acceptable e
@@ -68,7 +68,7 @@ InF64 (b ∷ bs) = NumbersF64 b.numbers × InF64 bs
 
 -- the code's array has sixteen bands; a list of the logic may have any number
 pub record Exactly : Type 0 where
-  pub could-be-set : (e : Equaliser) → length e.settings.bands ≡ 16 → InF64 e.settings.bands → acceptable e ≡ true → ByCalls e
+  pub could_be_set : (e : Equaliser) → length e.settings.bands ≡ 16 → InF64 e.settings.bands → acceptable e ≡ true → ByCalls e
 
 -- band j and its registers are as they were
 pub record Other (e : Equaliser) (j : ℕ) (t : Told Equaliser) : Type 0 where

@@ -57,7 +57,7 @@ pub record Reached (s : Settings) : Type 0 where
   pub made : (calls.make rate rising falling).number ≡ 0
   pub since : List Call
   pub left : (carried (calls.make rate rising falling).state since).settings ≡ s
-  pub by-f32 : T (all_f32 (rate ∷ rising ∷ falling ∷ [])) × InF32 since
+  pub by_f32 : T (all_f32 (rate ∷ rising ∷ falling ∷ [])) × InF32 since
 
 -- 9 is given exactly when they couldn't, or "a level not from 0 to 64"
 pub record Exactly : Type 0 where
@@ -74,14 +74,14 @@ pub record OneWay : Type 0 where
 pub record Heard (s : Settings) (m : Registers) (x : Float) : Type 0 where
   pub accepted : T (acceptable (calls.leveller_of s m))
   pub sample : is_refused x ≡ false
-  pub by-f32 : SettingsF32 s × T (all_f32 (m.level ∷ x ∷ []))
+  pub by_f32 : SettingsF32 s × T (all_f32 (m.level ∷ x ∷ []))
 
 module _ (s : Settings) (m : Registers) (x : Float) where
-  abbrev pub s-root : Float
-  s-root = root binary32 (step.over s m x)
+  abbrev pub s_root : Float
+  s_root = root binary32 (step.over s m x)
 
-  abbrev pub q-root : Float
-  q-root = root binary32 s-root
+  abbrev pub q_root : Float
+  q_root = root binary32 s_root
 
   pub record Sample : Type 0 where
     -- the level stays from 0 to 64
@@ -89,9 +89,9 @@ module _ (s : Settings) (m : Registers) (x : Float) where
     -- over is from 1 to 2^20, a level of 64 by a threshold of 2^-14
     pub over : T (in_range one (f32 1048576 1) (step.over s m x))
     -- s and q are the f32s nearest to the roots of over and of s, by squares of whole numbers
-    pub roots : NearestTo binary32 (step.over s m x) s-root × NearestTo binary32 s-root q-root
+    pub roots : NearestTo binary32 (step.over s m x) s_root × NearestTo binary32 s_root q_root
     -- nothing overflows: level / threshold, the two roots, their product
-    pub no_overflow : T (finite (div binary32 (step.level s m x) s.factor.0)) × (T (finite s-root) × (T (finite q-root) × T (finite (mul binary32 s-root q-root))))
+    pub no_overflow : T (finite (div binary32 (step.level s m x) s.factor.0)) × (T (finite s_root) × (T (finite q_root) × T (finite (mul binary32 s_root q_root))))
     -- the gain is above 0 and at most 1
     pub gain : T (lt nought (step.gain s m x)) × T (le (step.gain s m x) one)
     -- no output is larger in size than its input times makeup, as rounded, and none than 256

@@ -44,7 +44,7 @@ pub record Unmade : Type 0 where
 pub record Accepted : Type 0 where
   pub carried_on : (rate rising falling : Float) → T (all_f32 (rate ∷ rising ∷ falling ∷ [])) → (calls.make rate rising falling).number ≡ 0
       → (cs : List Call) → InF32 cs → T (acceptable (carried (calls.make rate rising falling).state cs))
-  pub hold-samples : (g : Gate) → T (acceptable g) → SettingsF32 g.settings → hold_samples g.settings ≤ longest_count
+  pub hold_in_samples : (g : Gate) → T (acceptable g) → SettingsF32 g.settings → hold_samples g.settings ≤ longest_count
 
 -- settings, rate and worked numbers that could have been "set or made": those of a gate whose making was done, after some calls
 pub record Reached (s : Settings) : Type 0 where
@@ -55,7 +55,7 @@ pub record Reached (s : Settings) : Type 0 where
   pub since : List Call
   pub left : (carried (calls.make rate rising falling).state since).settings ≡ s
   -- by f32s, where these are
-  pub by-f32 : SettingsF32 s → T (all_f32 (rate ∷ rising ∷ falling ∷ [])) × InF32 since
+  pub by_f32 : SettingsF32 s → T (all_f32 (rate ∷ rising ∷ falling ∷ [])) × InF32 since
 
 -- 9 is given "exactly when .. a state's settings, rate or worked numbers couldn't have been set or made, or the gate's level, state or counter is out of bounds"
 pub record Exactly : Type 0 where

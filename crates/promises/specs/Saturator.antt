@@ -56,7 +56,7 @@ pub record ByCalls (s : Saturator) : Type 0 where
   pub same : (set_all (calls.make rate low high attack release blocker).state sets).settings ≡ s.settings
 
 pub record Exactly : Type 0 where
-  pub could-be-set : (s : Saturator) → settable s.settings ≡ true → ByCalls s
+  pub could_be_set : (s : Saturator) → settable s.settings ≡ true → ByCalls s
 
 -- "Reset sets them to 0 and keeps settings"; a block keeps them too; at a setting "registers stay"
 pub record Kept : Type 0 where

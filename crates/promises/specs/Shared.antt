@@ -26,7 +26,7 @@ pub record Blocks {S X Y : Type 0} (next : S → X → S) (out : S → X → Y) 
 
 -- "The rounding facts are shown once for any width": rounding depends on the fraction alone, keeps what fits, and keeps order; and a state of 1 that moves towards 1 stays 1
 pub record Rounding (f : Format) : Type 0 where
-  pub fraction-alone : (s : Bool) (a b c d : ℕ) → 0 < b → 0 < d → a * d ≡ c * b → round f s a b ≡ round f s c d
-  pub keeps-what-fits : (s : Bool) (m : ℕ) (e : ℤ) → T (fits f (fin s m e)) → round f s (m * up e) (down e) ≡ fin s m e
-  pub keeps-order : (a b c d : ℕ) → 0 < b → 0 < d → a * d ≤ c * b → T (le (round f false a b) (round f false c d))
-  pub stays-at-one : (c : Float) → T (fits f c) → T (le nought c) → T (le c one) → fma f c one (mul f (sub f one c) one) ≡ one
+  pub fraction_alone : (s : Bool) (a b c d : ℕ) → 0 < b → 0 < d → a * d ≡ c * b → round f s a b ≡ round f s c d
+  pub keeps_what_fits : (s : Bool) (m : ℕ) (e : ℤ) → T (fits f (fin s m e)) → round f s (m * up e) (down e) ≡ fin s m e
+  pub keeps_order : (a b c d : ℕ) → 0 < b → 0 < d → a * d ≤ c * b → T (le (round f false a b) (round f false c d))
+  pub stays_at_one : (c : Float) → T (fits f c) → T (le nought c) → T (le c one) → fma f c one (mul f (sub f one c) one) ≡ one

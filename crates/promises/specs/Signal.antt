@@ -58,9 +58,9 @@ module _ (kind : Kind) (drive : Float) where
   clipped (b ∷ bs) = (clipper.block kind drive b.input b.output).state ++ clipped bs
 
 pub record Signals : Type 0 where
-  pub noise-gate : AnyCut gate.block
+  pub noise_gate : AnyCut gate.block
   pub equaliser : AnyCut eq.block
-  pub tone-stack : AnyCut tonestack.block
+  pub tone_stack : AnyCut tonestack.block
   pub saturator : AnyCut saturator.block
   pub leveller : AnyCut leveller.block
   pub clipper : (kind : Kind) (drive : Float) (bs cs : List Lent) → AllClipped kind drive bs → AllClipped kind drive cs → joined bs ≡ joined cs → clipped kind drive bs ≡ clipped kind drive cs

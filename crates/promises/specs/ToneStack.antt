@@ -53,7 +53,7 @@ pub record ByCalls (t : Tone) : Type 0 where
   pub same : (set_all (calls.make model rate).state sets).settings ≡ t.settings
 
 pub record Exactly : Type 0 where
-  pub could-be-set : (t : Tone) → acceptable t ≡ true → ByCalls t
+  pub could_be_set : (t : Tone) → acceptable t ≡ true → ByCalls t
 
 -- "Reset sets them to 0 and keeps settings"; a block keeps them too, and a made tone stack's number is its model's
 pub record Kept : Type 0 where

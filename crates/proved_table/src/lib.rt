@@ -1,3 +1,2 @@
-#![tactic(auto)]
-
 // Document 01's proved table, with no function of its own.
+#![tactic(auto)]

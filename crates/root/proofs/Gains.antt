@@ -42,14 +42,14 @@ module _ (f : Format) (x : Float) (hx : T (fits f x)) (px : T (positive x)) (l :
       let s = root-from-one f x a.0 a.1 in
       let c = root_size f b in
       let q = root-from-one f (root f x) b s in
-      let b-most : b ≤ 2 ^ (h + h) * U f = root-power f a.0 a.1.above.rep (h + h) (le_trans (le_of_lt a.1.above.under) (le_of_eq (four_quarters f))) in
-      let c-most : c ≤ 2 ^ h * U f = root-power f b s.above.rep h b-most in
+      let b_most : b ≤ 2 ^ (h + h) * U f = root-power f a.0 a.1.above.rep (h + h) (le_trans (le_of_lt a.1.above.under) (le_of_eq (four_quarters f))) in
+      let c_most : c ≤ 2 ^ h * U f = root-power f b s.above.rep h b_most in
       let m = 2 ^ (h + h) * 2 ^ h * U f in
       let m-is : 2 ^ (low f + (h + h + h)) ≡ m = sym (ap (λ (z : ℕ). z * U f) (sym (pow-add 2 (h + h) h)) ∙ power f (h + h + h)) in (
         snap (prec f) (b * c) (U f),
         product f (root f x) (root f (root f x)) b c m s q (subst (λ (z : ℕ). Rep (prec f) z) m-is (rep-pow (prec f) (low f + (h + h + h)) (prec-pos f)))
             (subst (λ (z : ℕ). z < overflow f) m-is (pow-lt {i = low f + (h + h + h)} {j = low f + suc (emax f)} (room f)))
-            (le_trans (mul-le-mul b-most c-most) (le_of_eq (regroup (2 ^ (h + h)) (2 ^ h) (U f)))),
+            (le_trans (mul-le-mul b_most c_most) (le_of_eq (regroup (2 ^ (h + h)) (2 ^ h) (U f)))),
       )
     where
       room : (f : Format) → low f + (quarter f + quarter f + quarter f) < low f + suc (emax f)

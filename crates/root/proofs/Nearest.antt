@@ -62,11 +62,11 @@ nearest f = record { held = root-fits f; nearest = is-nearest f; only = λ x y h
 pub values : (f : Format) → Values f
 values f = record {
   of_one = root-one f;
-  keeps-order = root-keeps-order f;
+  keeps_order = root-keeps-order f;
   from_one = one-le-root f;
-  up-to-itself = root-le-itself f;
-  stays-positive = root-positive f;
+  up_to_itself = root-le-itself f;
+  stays_positive = root-positive f;
   of_zero = λ x h. sym (root-zero f x (ap (eq x) (Zero.nought f false) ∙ is_true (eq x nought) h));
-  below-zero = root_below f;
+  below_zero = root_below f;
   of_nan = unfold root in refl;
 }

@@ -42,13 +42,13 @@ pub record Values (f : Format) : Type 0 where
   -- the root of 1 is 1
   pub of_one : root f one ≡ one
   -- a larger value never has a smaller root
-  pub keeps-order : (x y : Float) → T (fits f x) → T (positive x) → T (fits f y) → T (positive y) → T (le x y) → T (le (root f x) (root f y))
+  pub keeps_order : (x y : Float) → T (fits f x) → T (positive x) → T (fits f y) → T (positive y) → T (le x y) → T (le (root f x) (root f y))
   -- from 1 up it lies between 1 and x
   pub from_one : (x : Float) → T (fits f x) → T (positive x) → T (le one x) → T (le one (root f x))
-  pub up-to-itself : (x : Float) → T (fits f x) → T (positive x) → T (le one x) → T (le (root f x) x)
+  pub up_to_itself : (x : Float) → T (fits f x) → T (positive x) → T (le one x) → T (le (root f x) x)
   -- what is finite and above zero has a root that is
-  pub stays-positive : (x : Float) → T (fits f x) → T (positive x) → T (positive (root f x))
+  pub stays_positive : (x : Float) → T (fits f x) → T (positive x) → T (positive (root f x))
   -- each zero, -0 too, is its own root; what is below zero has none, and a NaN has none
   pub of_zero : (x : Float) → T (eq x nought) → root f x ≡ x
-  pub below-zero : (x : Float) → T (lt x nought) → root f x ≡ nan
+  pub below_zero : (x : Float) → T (lt x nought) → root f x ≡ nan
   pub of_nan : root f nan ≡ nan

@@ -1,4 +1,4 @@
--- The square root, once for every format, by squares of whole numbers and one rounding: IEEE 754's square_root. Definitions only.
+-- The square root, once for every format, by squares of whole numbers and one rounding: IEEE 754's squareRoot. Definitions only.
 -- Assumes nothing.
 use Rattle.std.specs.Prelude.{ℕ, zero, suc, ◌+◌, ◌*◌, ◌/◌, ◌^◌, true, false, cond, nat_le, Float}
 use Rattle.std.specs.Float.{nan, inf, fin, Format}
@@ -25,7 +25,7 @@ rooted f a c =
     let r = whole_root (a * 4 ^ suc (low f) / c) in
     round f false (2 * r + 1) (2 ^ (2 + low f))
 
--- IEEE 754's square_root: a zero is its own root, with its sign, and so is infinity; below zero, and of a NaN, there is none
+-- IEEE 754's squareRoot: a zero is its own root, with its sign, and so is infinity; below zero, and of a NaN, there is none
 unfoldable pub root : Format → Float → Float
 unfolding rooted
 root f nan = nan

@@ -17,16 +17,16 @@ use Rattle.rounding.proofs.Sizes.{At}
 
 module _ (f : Format) where
   -- it depends on the fraction alone
-  pub fraction-alone : (s : Bool) (a b c d : ℕ) → 0 < b → 0 < d → a * d ≡ c * b → round f s a b ≡ round f s c d
-  fraction-alone s a b c d B D e = round_same f s a b c d B D e
+  pub fraction_alone : (s : Bool) (a b c d : ℕ) → 0 < b → 0 < d → a * d ≡ c * b → round f s a b ≡ round f s c d
+  fraction_alone s a b c d B D e = round_same f s a b c d B D e
 
   -- it keeps what fits
-  pub keeps-what-fits : (s : Bool) (m : ℕ) (e : ℤ) → T (fits f (fin s m e)) → round f s (m * up e) (down e) ≡ fin s m e
-  keeps-what-fits s m e h = round-own f s m e h
+  pub keeps_what_fits : (s : Bool) (m : ℕ) (e : ℤ) → T (fits f (fin s m e)) → round f s (m * up e) (down e) ≡ fin s m e
+  keeps_what_fits s m e h = round-own f s m e h
 
   -- it keeps order
-  pub keeps-order : (a b c d : ℕ) → 0 < b → 0 < d → a * d ≤ c * b → T (le (round f false a b) (round f false c d))
-  keeps-order a b c d B D h = Order.round_mono f a b c d B D h
+  pub keeps_order : (a b c d : ℕ) → 0 < b → 0 < d → a * d ≤ c * b → T (le (round f false a b) (round f false c d))
+  keeps_order a b c d B D h = Order.round_mono f a b c d B D h
 
   -- it is off by half a step at most: the fraction n / d of units lies below 2 ^ (prec + j), where a step is 2 ^ j
   pub record HalfStep (s : Bool) (a c n d j : ℕ) : Type 0 where

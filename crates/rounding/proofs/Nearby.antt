@@ -113,11 +113,11 @@ near-whole f a b c g u v h eu ev =
     let x = a % top f / hid f in
     let y = b % top f / hid f in
     let z = c % top f / hid f in
-    let xs = h.a-some in
-    let ys = h.b-some in
-    let zs = h.c-some in
+    let xs = h.a_some in
+    let ys = h.b_some in
+    let zs = h.c_some in
     let far = h.apart in
-    fma-whole f a b c (bits-finite f a h.a-most) (bits-finite f b h.b-most) (bits-finite f c (omega (arith, h.c-most)))
+    fma-whole f a b c (bits-finite f a h.a_most) (bits-finite f b h.b_most) (bits-finite f c (omega (arith, h.c_most)))
     (x + y - 2) g u v (omega arith) (omega arith) eu ev
 
 -- ---- 63 digits m that stand for a / 2 ^ k, rounded: q is what is kept of them, x the exponent's field below the leading digit
@@ -158,7 +158,7 @@ module _ (f : Format) (a b c g : ℕ) (few : ones f < 2 ^ 63) where
       let x-is = unwrapped p 1 (a % top f / hid f) (ones f) x (omega arith) (omega arith) in
       let y-is = unwrapped q 1 (b % top f / hid f) (ones f) y (omega arith) (omega arith) in
       let z-is = unwrapped r 62 (c % top f / hid f) (ones f) z (omega arith) (omega arith) in
-      record { a-some = omega (arith, x-is); a-most = omega (arith, x-is); b-some = omega (arith, y-is); b-most = omega (arith, y-is); c-some = omega (arith, z-is); c-most = omega (arith, z-is); apart = e }
+      record { a_some = omega (arith, x-is); a_most = omega (arith, x-is); b_some = omega (arith, y-is); b_most = omega (arith, y-is); c_some = omega (arith, z-is); c_most = omega (arith, z-is); apart = e }
 
 -- ---- a normal value's significand
 pub significand-normal : (f : Format) (a : ℕ) → 1 ≤ a % top f / hid f → hid f + a % hid f ≡ significand (hid f) (a % top f)

@@ -235,8 +235,8 @@ one_in f = record { fit = one-fits f; above = tt; below = tt }
 abbrev one-sized : (f : Format) → Sized f one (U f)
 one-sized f = record { at = U f; rep = rep-pow (prec f) (prec f + gap f) (prec-pos f); fine = unit-fine f (U f) (unit-le f (U f) (le_refl (U f))); most = le_refl (U f); is = one_at f }
 
-pub stays-at-one : (f : Format) (c : Float) → In f one c → fma f c one (mul f (sub f one c) one) ≡ one
-stays-at-one f c ic =
+pub stays_at_one : (f : Format) (c : Float) → In f one c → fma f c one (mul f (sub f one c) one) ≡ one
+stays_at_one f c ic =
     let cs = sized f c one (U f) ic (one_at f) in
     let n = snap (prec f) (cs.at * U f + rest f cs.at * U f) (U f) in
     let e : n ≡ U f = le_antisymm (opens-le f cs.at (U f) cs.most (le_refl (U f))) (stays_open (prec f) (gap f) (prec-pos f) (bottom f) cs.at cs.most) in

@@ -30,12 +30,12 @@ stuck m rest = cond (eqb rest 0) m (m + (1 - m % 2))
 
 -- Three bit patterns: the factors' exponents are those of normal values, the third term's lies 62 or more inside the range, and its last digit g places above the product's last, so that both terms are whole numbers of the product's last place
 pub record Near (f : Format) (a b c g : ℕ) : Type 0 where
-  pub a-some : 1 ≤ a % top f / hid f
-  pub a-most : a % top f / hid f < ones f
-  pub b-some : 1 ≤ b % top f / hid f
-  pub b-most : b % top f / hid f < ones f
-  pub c-some : 62 ≤ c % top f / hid f
-  pub c-most : c % top f / hid f + 62 ≤ ones f
+  pub a_some : 1 ≤ a % top f / hid f
+  pub a_most : a % top f / hid f < ones f
+  pub b_some : 1 ≤ b % top f / hid f
+  pub b_most : b % top f / hid f < ones f
+  pub c_some : 62 ≤ c % top f / hid f
+  pub c_most : c % top f / hid f + 62 ≤ ones f
   pub apart : c % top f / hid f + (low f + 1) ≡ g + (a % top f / hid f + b % top f / hid f)
 
 -- s is the product and the sum of three `f32`, taken as `f64`, and no NaN

@@ -1,3 +1,2 @@
-#![tactic(auto)]
-
 // Definitions and laws, with no function of its own.
+#![tactic(auto)]

@@ -47,11 +47,11 @@ kept s m h x a b fx lx k =
       aims = (λ (t : T (aim s m x)). aims-held (sample s m x) h (subst T e t), λ p. subst T (sym e) (held-aims (sample s m x) h p));
       was = k.joined;
       falls = v.falls;
-      never-rises = v.rests;
-      never-falls = v.opens;
-      from-0 = v.inside.above;
-      to-1 = v.inside.below;
-      gain-to-1 = (gain-in s m x a b fx lx).below;
+      never_rises = v.rests;
+      never_falls = v.opens;
+      from_0 = v.inside.above;
+      to_1 = v.inside.below;
+      gain_to_1 = (gain-in s m x a b fx lx).below;
       quieter = quieter s m x a b fx lx;
     } in
     record { counted = counter-is s m x h k.counted; joined = unfold next in refl; each = (p, k.each) }

@@ -51,12 +51,12 @@ pub record Promised (e : Sample) (past : List Sample) : Type 0 where
   -- 3. "aiming closed, its state falls strictly while it was above 2^-126, and from there down never rises; aiming open, it never falls"
   pub was : e.before ≡ left_at past
   pub falls : ¬ T e.aim → T (lt (f32 1 (2 ^ 126)) e.before) → T (lt e.state e.before)
-  pub never-rises : ¬ T e.aim → T (le e.state e.before)
-  pub never-falls : T e.aim → T (le e.before e.state)
+  pub never_rises : ¬ T e.aim → T (le e.state e.before)
+  pub never_falls : T e.aim → T (le e.before e.state)
   -- 4. "state stays from 0 to 1, no output is larger in size than its input"; and document 01: "gain at most 1, rounding included"
-  pub from-0 : T (le nought e.state)
-  pub to-1 : T (le e.state one)
-  pub gain-to-1 : T (le e.gain one)
+  pub from_0 : T (le nought e.state)
+  pub to_1 : T (le e.state one)
+  pub gain_to_1 : T (le e.gain one)
   pub quieter : T (le (absolute e.output) (absolute e.input))
 
 abbrev pub Each : (Sample → List Sample → Type 0) → List Sample → Type 0

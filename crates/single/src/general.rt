@@ -46,7 +46,7 @@ fn signed(s: bool, b: u64) -> f32
 fn grown(n: u64, e: u64) -> bits::Part
     requires n_nonzero { 0 < n }
     requires n_bound { n < 2 ^ 63 }
-    requires le_e { 62 ≤ e }
+    requires e_least { 62 ≤ e }
     ensures m_least { 2 ^ 62 ≤ result.m }
     ensures m_bound { result.m < 2 ^ 63 }
     ensures k_value { result.m * 2 ^ result.k ≡ n * 2 ^ e }
@@ -63,7 +63,7 @@ fn grown(n: u64, e: u64) -> bits::Part
 // ±n * 2 ^ e units of 2 ^ -312, rounded.
 fn made(s: bool, n: u64, e: u64) -> f32
     requires n_bound { n < 2 ^ 63 }
-    requires le_e { 62 ≤ e }
+    requires e_least { 62 ≤ e }
     requires e_bound { e < 1024 }
     ensures { result ≡ round binary32 s (n * 2 ^ e) (2 ^ 312) }
 {
@@ -113,7 +113,7 @@ fn aligned(p: u64, x: u64, m: u64, y: u64) -> Terms
 fn total(s: bool, t: bool, w: Terms) -> f32
     requires u_bound { w.u < 2 ^ 62 }
     requires v_bound { w.v < 2 ^ 62 }
-    requires le_e { 62 ≤ w.e }
+    requires e_least { 62 ≤ w.e }
     requires e_bound { w.e < 1024 }
     ensures { result ≡ sum binary32 s (w.u * 2 ^ w.e) t (w.v * 2 ^ w.e) (2 ^ 312) }
 {

@@ -63,11 +63,11 @@ module _ (s : List ℕ) where
         let names = name-at at c.name (le32 (length c.body) ++ ((c.body ++ c.pad) ++ r)) f.named in
         let w = length_whole c f in
         record {
-          other = names (bytes "data") e' ∙ k.no-data;
+          other = names (bytes "data") e' ∙ k.no_data;
           head = omega (arith, w, l);
           place = rw z (omega (arith, w));
           inside = l;
-          kind = skipped (rw (names (bytes "fmt ") e') k.no-format) refl;
+          kind = skipped (rw (names (bytes "fmt ") e') k.no_format) refl;
         }
 
     along : (cs : List Chunk) (at rate to : ℕ) (r : List ℕ) {goal last : ℕ} → Each (Passed rate) cs → drop at s ≡ joined cs ++ r → to ≡ at + length (joined cs) → to ≤ end → Trail s end goal last to rate → Trail s end goal last at rate
@@ -118,7 +118,7 @@ all_read s {rate} {place} {size} w =
     let n : length s ≡ 12 + (b + (24 + (c + (8 + length w.rest)))) = ap length w.is ∙ omega (arith, length-append (joined w.before) rest₁, length-append (joined w.between) tail) in
     let z : word32 s 4 ≡ w.riff = ap (λ (x : List ℕ). word32 x 4) w.is ∙ omega arith in
     let p = w.at in
-    let room : place + size ≤ end_of s = omega (arith, n, z, p, w.in_buffer, w.in-riff) in
+    let room : place + size ≤ end_of s = omega (arith, n, z, p, w.in_buffer, w.in_riff) in
     let a : is_rate rate ≡ true = both_true (leb lowest_rate rate) (leb rate highest_rate) (le-leb _ _ w.lowest) (le-leb _ _ w.highest) in
     let t₃ : Trail s (end_of s) (12 + b + 24 + c) rate (12 + b + 24 + c) rate = here in
     let t₂ = along s (end_of s) w.between (12 + b + 24) rate (12 + b + 24 + c) tail (each (λ c k. skipped-passes c rate (omega (arith, w.lowest)) k) w.later) e₂ refl (omega (arith, p, room)) t₃ in
@@ -126,7 +126,7 @@ all_read s {rate} {place} {size} w =
     let t₀ = along s (end_of s) w.before 12 0 (12 + b) rest₁ (each unknown-passes w.first) e₀ refl (omega (arith, p, room)) t₁ in
     reads record {
       wave = let l : 12 ≤ length s = omega (arith, n) in rw (le-leb 12 (length s) l, ap (λ (x : List ℕ). same (take 4 x) (bytes "RIFF")) w.is, ap (λ (x : List ℕ). same (take 4 (drop 8 x)) (bytes "WAVE")) w.is);
-      least = omega (arith, z, p, w.in-riff);
+      least = omega (arith, z, p, w.in_riff);
       to = 12 + b + 24 + c;
       place = p;
       trail = t₀;

@@ -17,7 +17,7 @@ plain : read (file 40 [] 48000 [] 4 samples) ≡ found 48000 44 4
 unfolding samples read is_wave walk chunks step format_step samples_at is_rate is_named is_format same word16 word32
 plain = refl
 
--- 296, 0, 0, 0 is read as the word that the bytes 40, 1, 0, 0 make, and no file of the grammar begins so: `nothing-else` asks that all are bytes
+-- 296, 0, 0, 0 is read as the word that the bytes 40, 1, 0, 0 make, and no file of the grammar begins so: `nothing_else` asks that all are bytes
 no_byte : read (bytes "RIFF" ++ (296 ∷ 0 ∷ 0 ∷ 0 ∷ drop 8 (file 40 [] 48000 [] 4 samples))) ≡ found 48000 44 4
 unfolding samples read is_wave walk chunks step format_step samples_at is_rate is_named is_format same word16 word32
 no_byte = refl

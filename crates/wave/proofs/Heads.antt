@@ -105,10 +105,10 @@ unfolding end_of
 heads-count s t {rate} {place} {size} h e l =
     let i = inside s h in
     let f = recording s h in
-    let z = word32-same s t place e 4 (omega (arith, i.behind-heads)) in
-    let room : place + size ≤ end_of t = omega (arith, l, i.in-riff, z) in
+    let z = word32-same s t place e 4 (omega (arith, i.behind_heads)) in
+    let room : place + size ≤ end_of t = omega (arith, l, i.in_riff, z) in
     reads record {
-      wave = sym (wave-same s t place e (omega (arith, i.behind-heads)) (omega (arith, i.in_buffer, i.behind-heads)) (omega (arith, l, i.behind-heads))) ∙ f.wave;
+      wave = sym (wave-same s t place e (omega (arith, i.behind_heads)) (omega (arith, i.in_buffer, i.behind_heads)) (omega (arith, l, i.behind_heads))) ∙ f.wave;
       least = rw z at f.least;
       to = f.to;
       place = f.place;
@@ -117,8 +117,8 @@ heads-count s t {rate} {place} {size} h e l =
     }
 
 -- whatever the samples are
-pub any-samples : (s : List ℕ) {rate place size : ℕ} (other : List ℕ) → read s ≡ found rate place size → length other ≡ size → read (take place s ++ (other ++ drop (place + size) s)) ≡ found rate place size
-any-samples s {rate} {place} {size} other h n =
+pub any_samples : (s : List ℕ) {rate place size : ℕ} (other : List ℕ) → read s ≡ found rate place size → length other ≡ size → read (take place s ++ (other ++ drop (place + size) s)) ≡ found rate place size
+any_samples s {rate} {place} {size} other h n =
     let i = inside s h in
     let l : place ≤ length s = omega (arith, i.in_buffer) in
     let m : length (take place s) ≡ place = length-take-le place s l in
@@ -127,8 +127,8 @@ any-samples s {rate} {place} {size} other h n =
     (omega (arith, m, n, length-append (take place s) r, length-append other (drop (place + size) s)))
 
 -- whatever follows them
-pub any-rest : (s : List ℕ) {rate place size : ℕ} (k : ℕ) (more : List ℕ) → read s ≡ found rate place size → place + size ≤ k → read (take k s ++ more) ≡ found rate place size
-any-rest s {rate} {place} {size} k more h l =
+pub any_rest : (s : List ℕ) {rate place size : ℕ} (k : ℕ) (more : List ℕ) → read s ≡ found rate place size → place + size ≤ k → read (take k s ++ more) ≡ found rate place size
+any_rest s {rate} {place} {size} k more h l =
     let i = inside s h in
     let m : place + size ≤ length (take k s) = rw (length-take k s) (omega (arith, i.in_buffer, l)) in
     let a : place ≤ length (take k s) = omega (arith, m) in

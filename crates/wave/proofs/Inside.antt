@@ -19,10 +19,10 @@ use Rattle.wave.proofs.Trail.{Trail, here, on, end_of, recording}
 
 pub record Bounds (s : List ℕ) (rate place size : ℕ) : Type 0 where
   pub in_buffer : place + size ≤ length s
-  pub in-riff : place + size ≤ word32 s 4 + 8
-  pub behind-heads : 44 ≤ place
+  pub in_riff : place + size ≤ word32 s 4 + 8
+  pub behind_heads : 44 ≤ place
   pub even_place : place % 2 ≡ 0
-  pub even-size : size % 2 ≡ 0
+  pub even_size : size % 2 ≡ 0
   pub lowest : lowest_rate ≤ rate
   pub highest : rate ≤ highest_rate
 
@@ -69,10 +69,10 @@ inside s {rate} {place} {size} h =
     let r = between rate (accepted s h) in
     record {
       in_buffer = omega (arith, w.place, d.inside);
-      in-riff = omega (arith, w.place, d.inside);
-      behind-heads = omega (arith, w.place, a);
+      in_riff = omega (arith, w.place, d.inside);
+      behind_heads = omega (arith, w.place, a);
       even_place = omega (arith, w.place, e);
-      even-size = d.even;
+      even_size = d.even;
       lowest = r.0;
       highest = r.1;
     }

@@ -16,8 +16,8 @@ use Rattle.wave.proofs.Cases.{others}
 pub never : {m : Met} {n k : ℕ} → Ends m ≡ On n k → ⊥
 never h = let z : ◌≡◌ {A = ℕ} 0 1 = cc in omega arith
 
-pub no-data : {n at rate : ℕ} → Stops n ≡ Data at rate → ⊥
-no-data h = let z : ◌≡◌ {A = ℕ} 0 1 = cc in omega arith
+pub no_data : {n at rate : ℕ} → Stops n ≡ Data at rate → ⊥
+no_data h = let z : ◌≡◌ {A = ℕ} 0 1 = cc in omega arith
 
 pub inner : {m n : Met} → Ends m ≡ Ends n → m ≡ n
 inner h = cc
@@ -66,7 +66,7 @@ moves s end at rate {next} h =
 module _ {to last : ℕ} where
   pub kept : (t : Bool) (n : ℕ) (x : Step) → unless t (Ends (Stops n)) x ≡ Ends (Data to last) → (t ≡ true) × (x ≡ Ends (Data to last))
   kept true n x h = (refl, h)
-  kept false n x h = absurd (no-data (inner h))
+  kept false n x h = absurd (no_data (inner h))
 
   not-format : (s : List ℕ) (place size next : ℕ) → format_step s place size next ≡ Ends (Data to last) → ⊥
   unfolding format_step
@@ -95,7 +95,7 @@ module _ {to last : ℕ} where
 
   pub head-inside : (s : List ℕ) (end k at rate : ℕ) → chunks s end k at rate ≡ Data to last → to + 8 ≤ end
   unfolding chunks
-  head-inside s end zero at rate h = absurd (no-data h)
+  head-inside s end zero at rate h = absurd (no_data h)
   head-inside s end (suc k) at rate h = go (step s end at rate) refl h (head-inside s end k)
     where
       go : (t : Step) → step s end at rate ≡ t → follow t (chunks s end k) ≡ Data to last → ((at rate : ℕ) → chunks s end k at rate ≡ Data to last → to + 8 ≤ end) → to + 8 ≤ end

@@ -94,7 +94,7 @@ module _ (s : List ℕ) (small : Bytes s) where
 
     is-skipped : (is_named s at (bytes "fmt ") && eqb rate 0) ≡ false → Passed rate (chunk_at s at)
     unfolding is_named
-    is-skipped f = record { formed = formed; no-data = g.other; no-format = f }
+    is-skipped f = record { formed = formed; no_data = g.other; no_format = f }
 
   is-format : {end at rate next known : ℕ} → end ≤ length s → Goes s end at rate next known → is_named s at (bytes "fmt ") ≡ true → word32 s (at + 4) ≡ 16 → is_format s (at + 8) ≡ true → known ≡ word32 s (at + 8 + 4) → (drop at s ≡ Grammar.format known ++ drop next s) × (next ≡ at + 24)
   unfolding is_format
@@ -183,9 +183,9 @@ module _ (s : List ℕ) (small : Bytes s) {rate place size : ℕ} (h : read s �
       let e : place - 8 ≡ w.to = omega (arith, w.place) in
       rw e (ap (take 8) (data_head w.to w.place d.named d.sized))
 
-  pub nothing-else : IsWave s rate place size
+  pub nothing_else : IsWave s rate place size
   unfolding end_of is_wave
-  nothing-else =
+  nothing_else =
       let i = inside s h in
       let w = recording s h in
       let d = w.samples in
@@ -208,5 +208,5 @@ module _ (s : List ℕ) (small : Bytes s) {rate place size : ℕ} (h : read s �
         fits = small32 s small 4;
         even = d.even;
         in_buffer = omega (arith, i.in_buffer, w.place, length-drop (to + 8) s);
-        in-riff = i.in-riff;
+        in_riff = i.in_riff;
       }

@@ -14,8 +14,8 @@ use Rattle.wave.specs.Grammar.{Chunk, Formed, Unknown, Skipped, Each, none, more
 -- what the walk passes where a rate is known, 0 where none is
 pub record Passed (rate : ℕ) (c : Chunk) : Type 0 where
   pub formed : Formed c
-  pub no-data : same c.name (bytes "data") ≡ false
-  pub no-format : (same c.name (bytes "fmt ") && eqb rate 0) ≡ false
+  pub no_data : same c.name (bytes "data") ≡ false
+  pub no_format : (same c.name (bytes "fmt ") && eqb rate 0) ≡ false
 
 pub each : {P Q : Chunk → Type 0} → ((c : Chunk) → P c → Q c) → {cs : List Chunk} → Each P cs → Each Q cs
 each f none = none
@@ -42,18 +42,18 @@ only false h = refl
 
 module _ (c : Chunk) where
   pub unknown-passes : Unknown c → Passed 0 c
-  unknown-passes u = record { formed = u.formed; no-data = unlike _ _ u.no-data; no-format = rw (unlike c.name (bytes "fmt ") u.no-format) }
+  unknown-passes u = record { formed = u.formed; no_data = unlike _ _ u.no_data; no_format = rw (unlike c.name (bytes "fmt ") u.no_format) }
 
   pub passed-unknown : Passed 0 c → Unknown c
-  passed-unknown p = record { formed = p.formed; no-data = differ _ _ p.no-data; no-format = differ _ _ (only _ p.no-format) }
+  passed-unknown p = record { formed = p.formed; no_data = differ _ _ p.no_data; no_format = differ _ _ (only _ p.no_format) }
 
   pub passed-skipped : (rate : ℕ) → Passed rate c → Skipped c
-  passed-skipped rate p = record { formed = p.formed; no-data = differ _ _ p.no-data }
+  passed-skipped rate p = record { formed = p.formed; no_data = differ _ _ p.no_data }
 
   pub skipped-passes : (rate : ℕ) → 0 < rate → Skipped c → Passed rate c
   skipped-passes rate h k =
       record {
         formed = k.formed;
-        no-data = unlike _ _ k.no-data;
-        no-format = rw (ne_eqb rate 0 (λ (e : rate ≡ 0). omega (arith, e, h))) (neither (same c.name (bytes "fmt ")));
+        no_data = unlike _ _ k.no_data;
+        no_format = rw (ne_eqb rate 0 (λ (e : rate ≡ 0). omega (arith, e, h))) (neither (same c.name (bytes "fmt ")));
       }

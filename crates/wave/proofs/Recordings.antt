@@ -11,8 +11,8 @@ use Rattle.wave.proofs.Budget.{enough}
 use Rattle.wave.proofs.Refused.{refused-zeros, told-once}
 use Rattle.wave.proofs.Inside.{Bounds, inside, accepted}
 use Rattle.wave.proofs.AllRead.{all_read}
-use Rattle.wave.proofs.NothingElse.{head-before, nothing-else}
-use Rattle.wave.proofs.Heads.{any-samples, any-rest}
+use Rattle.wave.proofs.NothingElse.{head-before, nothing_else}
+use Rattle.wave.proofs.Heads.{any_samples, any_rest}
 use Rattle.wave.proofs.Rates.{stages-accept, comes_back}
 
 pub tells : Tells
@@ -21,10 +21,10 @@ tells = record { zeros = λ s. (refused-zeros s).zeros; once = told-once }
 bounded : {s : List ℕ} {rate place size : ℕ} → Bounds s rate place size → Inside s rate place size
 bounded b = record {
   in_buffer = b.in_buffer;
-  in-riff = b.in-riff;
-  behind-heads = b.behind-heads;
+  in_riff = b.in_riff;
+  behind_heads = b.behind_heads;
   even_place = b.even_place;
-  even-size = b.even-size;
+  even_size = b.even_size;
   lowest = b.lowest;
   highest = b.highest;
 }
@@ -38,10 +38,10 @@ lies = record {
 }
 
 pub exactly : Exactly
-exactly = record { all = λ s rate place size w. all_read s w; nothing-else = λ s rate place size b h. nothing-else s b h }
+exactly = record { all = λ s rate place size w. all_read s w; nothing_else = λ s rate place size b h. nothing_else s b h }
 
 pub only-heads : OnlyHeads
-only-heads = record { any-samples = λ s other rate place size h n. any-samples s other h n; any-rest = λ s more k rate place size h l. any-rest s k more h l }
+only-heads = record { any_samples = λ s other rate place size h n. any_samples s other h n; any_rest = λ s more k rate place size h l. any_rest s k more h l }
 
 longer : (s : List ℕ) (limit more : ℕ) → chunks s (end_within s limit) (suc (length s) + more) 12 0 ≡ walk s limit
 unfolding walk

@@ -14,7 +14,7 @@ use Rattle.wave.specs.Answers.{found, refused}
 use Rattle.wave.specs.declared.Figures.{Figures}
 use Rattle.wave.specs.Reading.{Met, Data, Stops, Step, Ends, On, follow, is_data, size_at, behind, format_step, step, chunks, samples_at, samples_of, end_within, walk, is_wave, riff_size, read}
 use Rattle.wave.proofs.Cases.{others, data-here, first-format, passed_over}
-use Rattle.wave.proofs.Moves.{no-data, inner, kept, not-other}
+use Rattle.wave.proofs.Moves.{no_data, inner, kept, not-other}
 use Rattle.wave.proofs.Numbers.{above}
 use Rattle.wave.proofs.Turns.{Kind, skipped, format, Goes, goes}
 
@@ -88,7 +88,7 @@ module _ (s : List ℕ) (end : ℕ) {to last : ℕ} where
 
   pub reached : (k at rate : ℕ) → chunks s end k at rate ≡ Data to last → Reached s end at rate to last
   unfolding chunks
-  reached zero at rate h = absurd (no-data h)
+  reached zero at rate h = absurd (no_data h)
   reached (suc k) at rate h = go (step s end at rate) refl h (reached k)
     where
       go : (t : Step) → step s end at rate ≡ t → follow t (chunks s end k) ≡ Data to last → ((at rate : ℕ) → chunks s end k at rate ≡ Data to last → Reached s end at rate to last) → Reached s end at rate to last

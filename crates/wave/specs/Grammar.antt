@@ -26,12 +26,12 @@ joined (c ∷ cs) = whole c ++ joined cs
 -- ---- the chunks before the `fmt `, and those between it and `data`: a later `fmt ` may be among these, and may say anything
 pub record Unknown (c : Chunk) : Type 0 where
   pub formed : Formed c
-  pub no-data : c.name ≡ bytes "data" → ⊥
-  pub no-format : c.name ≡ bytes "fmt " → ⊥
+  pub no_data : c.name ≡ bytes "data" → ⊥
+  pub no_format : c.name ≡ bytes "fmt " → ⊥
 
 pub record Skipped (c : Chunk) : Type 0 where
   pub formed : Formed c
-  pub no-data : c.name ≡ bytes "data" → ⊥
+  pub no_data : c.name ≡ bytes "data" → ⊥
 
 pub data Each (P : Chunk → Type 0) : List Chunk → Type 0 where
   none : Each P []
@@ -64,4 +64,4 @@ pub record IsWave (s : List ℕ) (rate place size : ℕ) : Type 0 where
   pub fits : riff < 2 ^ 32
   pub even : size % 2 ≡ 0
   pub in_buffer : size ≤ length rest
-  pub in-riff : place + size ≤ riff + 8
+  pub in_riff : place + size ≤ riff + 8

@@ -23,10 +23,10 @@ pub record Tells : Type 0 where
 -- where samples may lie: inside the buffer and the RIFF chunk, behind 44 bytes of heads at the least, at an even place; and at which rates
 pub record Inside (s : List ℕ) (rate place size : ℕ) : Type 0 where
   pub in_buffer : place + size ≤ length s
-  pub in-riff : place + size ≤ riff_size s + 8
-  pub behind-heads : 44 ≤ place
+  pub in_riff : place + size ≤ riff_size s + 8
+  pub behind_heads : 44 ≤ place
   pub even_place : place % 2 ≡ 0
-  pub even-size : size % 2 ≡ 0
+  pub even_size : size % 2 ≡ 0
   pub lowest : lowest_rate ≤ rate
   pub highest : rate ≤ highest_rate
 
@@ -40,12 +40,12 @@ pub record Lies : Type 0 where
 -- every recording of the grammar is read, and nothing else is
 pub record Exactly : Type 0 where
   pub all : (s : List ℕ) (rate place size : ℕ) → IsWave s rate place size → Reads s rate place size
-  pub nothing-else : (s : List ℕ) (rate place size : ℕ) → Bytes s → Reads s rate place size → IsWave s rate place size
+  pub nothing_else : (s : List ℕ) (rate place size : ℕ) → Bytes s → Reads s rate place size → IsWave s rate place size
 
 -- only heads count: whatever the samples are, and whatever follows them
 pub record OnlyHeads : Type 0 where
-  pub any-samples : (s other : List ℕ) (rate place size : ℕ) → Reads s rate place size → length other ≡ size → Reads (take place s ++ (other ++ drop (place + size) s)) rate place size
-  pub any-rest : (s more : List ℕ) (k rate place size : ℕ) → Reads s rate place size → place + size ≤ k → Reads (take k s ++ more) rate place size
+  pub any_samples : (s other : List ℕ) (rate place size : ℕ) → Reads s rate place size → length other ≡ size → Reads (take place s ++ (other ++ drop (place + size) s)) rate place size
+  pub any_rest : (s more : List ℕ) (k rate place size : ℕ) → Reads s rate place size → place + size ≤ k → Reads (take k s ++ more) rate place size
 
 -- the definition's walk may take more turns, and leads to the same
 pub record Lasts : Type 0 where

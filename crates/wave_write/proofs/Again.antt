@@ -12,7 +12,7 @@ use Rattle.wave.specs.Grammar.{Chunk, whole, joined, Formed, Each, none, more}
 use Rattle.wave.specs.Reading.{riff_size}
 use Rattle.wave.specs.Recordings.{Reads}
 use Rattle.wave.proofs.Inside.{inside}
-use Rattle.wave.proofs.NothingElse.{nothing-else}
+use Rattle.wave.proofs.NothingElse.{nothing_else}
 use Rattle.wave_write.specs.RoundTrips.{samples_in, again}
 
 -- a chunk takes eight bytes at the least, so where there are none there is no chunk
@@ -28,7 +28,7 @@ module _ (s : List ℕ) {rate size : ℕ} (small : Bytes s) (h : Reads s rate 44
   pub no_chunk : s ≡ Grammar.file (riff_size s) [] rate [] size (drop 44 s)
   unfolding word32 word16
   no_chunk =
-      let w = nothing-else s small h in
+      let w = nothing_else s small h in
       let b = no_chunks (λ c k. k.formed) w.before w.first (omega (arith, w.at)) in
       let c = no_chunks (λ c k. k.formed) w.between w.later (omega (arith, w.at)) in
       let e : s ≡ Grammar.file w.riff [] rate [] size w.rest = w.is ∙ rw (b, c) in

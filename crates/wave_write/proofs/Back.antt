@@ -31,7 +31,7 @@ module _ (rate : ℕ) (samples rest : List ℕ) where
     fits = omega (arith, short);
     even = even;
     in_buffer = omega (arith, length-append samples rest);
-    in-riff = omega arith;
+    in_riff = omega arith;
   }
 
   pub read_back : lowest_rate ≤ rate → rate ≤ highest_rate → length samples % 2 ≡ 0 → riff_for (length samples) < 2 ^ 32 → Reads (file rate samples ++ rest) rate 44 (length samples)

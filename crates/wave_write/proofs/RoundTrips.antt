@@ -36,7 +36,7 @@ writable t = record { lowest = t.lowest; highest = t.highest; even = t.even; sho
 pub exactly : Exactly
 exactly = record {
   all = λ rate samples out w. finished rate samples out (accepted rate w.lowest w.highest) w.even w.short;
-  nothing-else = λ rate samples out h. let t = (left rate samples out).tests h in (writable t, t.room);
+  nothing_else = λ rate samples out h. let t = (left rate samples out).tests h in (writable t, t.room);
   long = long;
 }
 
@@ -72,9 +72,9 @@ module _ (s : List ℕ) {rate place size : ℕ} where
   by_place : Bytes s → Reads s rate place size → (place - 44 ≡ 0) ⊎ (0 < place - 44) → (length s - (place + size) ≡ 0) ⊎ (0 < length s - (place + size)) → Becomes s rate place size
   by_place small h (inl p) (inl b) =
       let i = inside s h in
-      whole-file small h (omega (arith, p, i.behind-heads)) (omega (arith, b, i.in_buffer)) (omega (arith, p, i.in-riff, i.behind-heads)) (eq-zero-or-pos (riff_size s - (36 + size)))
+      whole-file small h (omega (arith, p, i.behind_heads)) (omega (arith, b, i.in_buffer)) (omega (arith, p, i.in_riff, i.behind_heads)) (eq-zero-or-pos (riff_size s - (36 + size)))
   by_place small h (inr p) b = let i = inside s h in shorter-by h (inl (omega (arith, p))) (omega (arith, p, i.in_buffer))
-  by_place small h (inl p) (inr b) = let i = inside s h in shorter-by h (inr (omega (arith, b))) (omega (arith, b, i.behind-heads))
+  by_place small h (inl p) (inr b) = let i = inside s h in shorter-by h (inr (omega (arith, b))) (omega (arith, b, i.behind_heads))
 
   every : Bytes s → Reads s rate place size → Becomes s rate place size
   every small h = by_place small h (eq-zero-or-pos (place - 44)) (eq-zero-or-pos (length s - (place + size)))
@@ -84,13 +84,13 @@ module _ (s out : List ℕ) (rate place size : ℕ) (h : Reads s rate place size
   written few room =
       let i = inside s h in
       let n = samples-long s h in
-      finished rate (samples_in s place size) out (accepted rate i.lowest i.highest) (rw n i.even-size) (rw n few) (rw n room) ∙ ap (λ (k : ℕ). (done (44 + k), over (again s rate place size) out)) n
+      finished rate (samples_in s place size) out (accepted rate i.lowest i.highest) (rw n i.even_size) (rw n few) (rw n room) ∙ ap (λ (k : ℕ). (done (44 + k), over (again s rate place size) out)) n
 
   refused-again : longest_data < size → write rate (samples_in s place size) out ≡ (refused 17, out)
   refused-again many =
       let i = inside s h in
       let n = samples-long s h in
-      too_long rate (samples_in s place size) out (accepted rate i.lowest i.highest) (rw n i.even-size) (rw n many)
+      too_long rate (samples_in s place size) out (accepted rate i.lowest i.highest) (rw n i.even_size) (rw n many)
 
 pub written-again : Again
 written-again = record {

@@ -77,7 +77,7 @@ module _ (rate : ℕ) (samples out : List ℕ) (zero-told : (write_head rate (le
 pub streaming : Streaming
 streaming = record {
   all = all;
-  nothing-else = λ rate size out z. headed rate size out (tests rate size out z);
+  nothing_else = λ rate size out z. headed rate size out (tests rate size out z);
   zero = zero;
   unchanged = unchanged;
   past = past;

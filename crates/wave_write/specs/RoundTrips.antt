@@ -35,7 +35,7 @@ Room samples out = 44 + length samples ≤ length out
 -- all of that is written, and nothing else is; and how long a file is
 pub record Exactly : Type 0 where
   pub all : (rate : ℕ) (samples out : List ℕ) → Writable rate samples → Room samples out → write rate samples out ≡ (done (44 + length samples), over (file rate samples) out)
-  pub nothing-else : (rate : ℕ) (samples out : List ℕ) → (write rate samples out).0.number ≡ 0 → Writable rate samples × Room samples out
+  pub nothing_else : (rate : ℕ) (samples out : List ℕ) → (write rate samples out).0.number ≡ 0 → Writable rate samples × Room samples out
   pub long : (rate : ℕ) (samples : List ℕ) → length (file rate samples) ≡ 44 + length samples
 
 -- the bytes that a reader's place and length cut out of a file

@@ -18,7 +18,7 @@ pub record Headed (rate size : ℕ) (out : List ℕ) : Type 0 where
 pub record Streaming : Type 0 where
   -- all of these are written, and nothing else is
   pub all : (rate size : ℕ) (out : List ℕ) → Headed rate size out → write_head rate size out ≡ (done 44, over (head rate size) out)
-  pub nothing-else : (rate size : ℕ) (out : List ℕ) → (write_head rate size out).0.number ≡ 0 → Headed rate size out
+  pub nothing_else : (rate size : ℕ) (out : List ℕ) → (write_head rate size out).0.number ≡ 0 → Headed rate size out
   -- a refusal tells the length 0 and leaves the output; behind the 44 bytes it always stays
   pub zero : (rate size : ℕ) (out : List ℕ) → ((write_head rate size out).0.number ≡ 0 → ⊥) → (write_head rate size out).0.length ≡ 0
   pub unchanged : (rate size : ℕ) (out : List ℕ) → ((write_head rate size out).0.number ≡ 0 → ⊥) → (write_head rate size out).1 ≡ out

@@ -20,7 +20,7 @@ sticky-w-requires c =
     let m : a.m * 512 % 18446744073709551616 ≡ a.m * 512 = omega arith in
     let n : a.n * 512 % 18446744073709551616 ≡ a.n * 512 = omega arith in
     let b : a.m * 512 % 18446744073709551616 * (a.n * 512 % 18446744073709551616) ≤ 4611686018427387903 * 4611686018427387903 = mul-le-mul {n₁ = a.m * 512 % 18446744073709551616} {m₁ = a.n * 512 % 18446744073709551616} {n₂ = 4611686018427387903} {m₂ = 4611686018427387903} (omega arith) (omega arith) in
-    record { hi_bound = omega (arith, w.ensures.lo_value, w.ensures.lo_bound); lo_bound = w.ensures.lo_bound }
+    record { hi_bound = omega (arith, w.ensures.value, w.ensures.lo_bound); lo_bound = w.ensures.lo_bound }
 
 pub returns-then-x-y : goal.returns-then-x-y
 returns-then-x-y c =
@@ -28,7 +28,7 @@ returns-then-x-y c =
     let w = c.times-p in
     let q : a.q * 512 % 18446744073709551616 ≡ a.q * 512 = omega arith in
     let z : 0 ≡ a.x - a.y = omega arith in
-    let v : a.q * 512 % 18446744073709551616 * 4611686018427387904 + 0 ≡ a.q * 2361183241434822606848 = omega arith in record { ul_value = c.sticky-w.ensures.lo_value ∙ ap (λ (x : ℕ). stick x (a.y - a.x)) (w.ensures.lo_value ∙ product a.m a.n (omega arith) (omega arith)); ul_bound = c.sticky-w.ensures.result_bound; vl_value = v ∙ sym (stick-zero (a.q * 2361183241434822606848)) ∙ ap (λ (x : ℕ). stick (a.q * 2361183241434822606848) x) z; vl_bound = omega arith; e_value = omega arith }
+    let v : a.q * 512 % 18446744073709551616 * 4611686018427387904 + 0 ≡ a.q * 2361183241434822606848 = omega arith in record { ul_value = c.sticky-w.ensures.value ∙ ap (λ (x : ℕ). stick x (a.y - a.x)) (w.ensures.value ∙ product a.m a.n (omega arith) (omega arith)); ul_bound = c.sticky-w.ensures.result_bound; vl_value = v ∙ sym (stick-zero (a.q * 2361183241434822606848)) ∙ ap (λ (x : ℕ). stick (a.q * 2361183241434822606848) x) z; vl_bound = omega arith; e_value = omega arith }
 
 pub returns : goal.returns
 returns c =
@@ -37,4 +37,4 @@ returns c =
     let q : a.q * 512 % 18446744073709551616 ≡ a.q * 512 = omega arith in
     let z : 0 ≡ a.y - a.x = omega arith in
     let v : a.q * 512 % 18446744073709551616 * 4611686018427387904 + 0 ≡ a.q * 2361183241434822606848 = omega arith in
-    let p = a.m * a.n * 262144 in record { ul_value = w.ensures.lo_value ∙ product a.m a.n (omega arith) (omega arith) ∙ sym (stick-zero p) ∙ ap (λ (x : ℕ). stick p x) z; ul_bound = w.ensures.lo_bound; vl_value = c.sticky-w-2.ensures.lo_value ∙ ap (λ (x : ℕ). stick x (a.x - a.y)) v; vl_bound = c.sticky-w-2.ensures.result_bound; e_value = omega arith }
+    let p = a.m * a.n * 262144 in record { ul_value = w.ensures.value ∙ product a.m a.n (omega arith) (omega arith) ∙ sym (stick-zero p) ∙ ap (λ (x : ℕ). stick p x) z; ul_bound = w.ensures.lo_bound; vl_value = c.sticky-w-2.ensures.value ∙ ap (λ (x : ℕ). stick x (a.x - a.y)) v; vl_bound = c.sticky-w-2.ensures.result_bound; e_value = omega arith }

@@ -41,7 +41,7 @@ total-requires c =
     let yk : y.result.k ≤ 2046 = omega (arith, y.ensures.1) in
     let zk : z.result.k ≤ 2046 = omega (arith, z.ensures.1) in
     let r = w.ensures in
-    record { uh_bound = omega (arith, r.ul_value); ul_bound = r.ul_bound; vh_bound = omega (arith, r.vl_value); vl_bound = r.vl_bound; le_e = omega (arith, r.e_value); e_bound = omega (arith, r.e_value) }
+    record { uh_bound = omega (arith, r.ul_value); ul_bound = r.ul_bound; vh_bound = omega (arith, r.vl_value); vl_bound = r.vl_bound; e_least = omega (arith, r.e_value); e_bound = omega (arith, r.e_value) }
 
 pub returns : goal.returns
 returns c =

@@ -14,7 +14,7 @@ returns-then-s-t c =
     let u = a.uh * 4611686018427387904 + a.ul in
     let v = a.vh * 4611686018427387904 + a.vl in
     c.made.ensures
-    ∙ ap (λ (x : ℕ). round binary64 a.s (x * 2 ^ a.e) (2 ^ 2166)) c.plus-w.ensures.lo_value
+    ∙ ap (λ (x : ℕ). round binary64 a.s (x * 2 ^ a.e) (2 ^ 2166)) c.plus-w.ensures.value
     ∙ total-like binary64 a.s a.t u v a.e (2 ^ 2166) (subst (λ (x : Bool). T x) (sym c.if-s-t.true) tt)
 
 pub minus-w-requires : goal.minus-w-requires
@@ -31,7 +31,7 @@ returns-then-less c =
     let u = a.uh * 4611686018427387904 + a.ul in
     let v = a.vh * 4611686018427387904 + a.vl in
     c.made-then-less.ensures
-    ∙ ap (λ (x : ℕ). round binary64 a.t (x * 2 ^ a.e) (2 ^ 2166)) c.minus-w.ensures.lo_value
+    ∙ ap (λ (x : ℕ). round binary64 a.t (x * 2 ^ a.e) (2 ^ 2166)) c.minus-w.ensures.value
     ∙ total-less binary64 a.s a.t u v a.e (2 ^ 2166) (subst (λ (x : Bool). T (not x)) (sym c.if-s-t.false) tt) (less-taken c.less.result u v c.less.ensures c.if-less.true)
 
 pub minus-w-requires-then-less-2 : goal.minus-w-requires-then-less-2
@@ -48,7 +48,7 @@ returns-then-less-2 c =
     let u = a.uh * 4611686018427387904 + a.ul in
     let v = a.vh * 4611686018427387904 + a.vl in
     c.made-then-less-2.ensures
-    ∙ ap (λ (x : ℕ). round binary64 a.s (x * 2 ^ a.e) (2 ^ 2166)) c.minus-w-then-less-2.ensures.lo_value
+    ∙ ap (λ (x : ℕ). round binary64 a.s (x * 2 ^ a.e) (2 ^ 2166)) c.minus-w-then-less-2.ensures.value
     ∙ total-more binary64 a.s a.t u v a.e (2 ^ 2166) (subst (λ (x : Bool). T (not x)) (sym c.if-s-t.false) tt) (less-taken c.less-2.result v u c.less-2.ensures c.if-less-2.true)
 
 pub returns : goal.returns

@@ -6,7 +6,7 @@ use lib.Dec.{lit≤}
 use lib.Ieee.{of_bits}
 use Rattle.answer.specs.Figures.{f32}
 use Rattle.pcm.specs.Samples.{written}
-use Rattle.pcm.proofs.Whole.{absolute-size, whole-most, below-zero, not-below-zero}
+use Rattle.pcm.proofs.Whole.{absolute-size, whole-most, below_zero, not-below-zero}
 use Rattle.pcm.proofs.written.Goals as goal
 
 pub whole_size-n-requires : goal.whole_size-n-requires
@@ -24,7 +24,7 @@ overflow_cast-result-else-y c = record { fits = rw c.whole_size.ensures (le_tran
 
 pub returns-then-y : goal.returns-then-y
 unfolding of_bits f32 written
-returns-then-y c = rw (c.whole_size-n.ensures, c.size32.ensures) (below-zero _ c.if-y.true)
+returns-then-y c = rw (c.whole_size-n.ensures, c.size32.ensures) (below_zero _ c.if-y.true)
 
 pub returns-else-y : goal.returns-else-y
 unfolding of_bits f32 written

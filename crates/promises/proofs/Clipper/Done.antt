@@ -15,7 +15,7 @@ use Rattle.answer.specs.Checks.{is_refused, first_refused}
 use Rattle.answer.specs.Told.{Told, refused, unless}
 use Rattle.answer.specs.declared.Refusal.{Refusal}
 use Rattle.answer.specs.declared.Refusal.TheVariants.{OutOfRange, BadSample, LengthsDiffer, TooLong}
-use Rattle.answer.proofs.Refusals.{never-nought}
+use Rattle.answer.proofs.Refusals.{never_nought}
 use Rattle.answer.proofs.Samples.{before-first}
 use Rattle.rounding.specs.Casts.{absolute}
 use Rattle.clipper.specs.Process.{process}
@@ -41,7 +41,7 @@ accepted-finite x h = go (finite x) (lt (f32 largest_sample 1) (absolute x)) h
 -- a test that a done call has passed
 passed : (test : Bool) (r : Refusal) (s : List Float) (rest : Told (List Float)) → (unless test (refused s r) rest).number ≡ 0 → (test ≡ true) × (rest.number ≡ 0)
 passed true r s rest e = (refl, e)
-passed false r s rest e = absurd (never-nought r (sym e))
+passed false r s rest e = absurd (never_nought r (sym e))
 
 record Passed (drive : Float) (input output : List Float) : Type 0 where
   lengths : eqb (length input) (length output) ≡ true

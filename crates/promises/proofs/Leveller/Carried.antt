@@ -163,5 +163,5 @@ settable-reached s t f =
       made = m.0;
       since = as_calls (own s);
       left = rw m.1 (ap (λ (l : Leveller). l.settings) (all_set (made_settings s.rate s.attack.number s.release.number) (own s) ready (a.threshold, (a.ratio, (a.attack, (a.release, (a.makeup, tt)))))) ∙ all_own s);
-      by-f32 = own-f32 s f;
+      by_f32 = own-f32 s f;
     }

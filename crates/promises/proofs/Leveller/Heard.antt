@@ -15,7 +15,7 @@ use Rattle.answer.specs.Checks.{is_refused}
 use Rattle.answer.specs.Told.{Told}
 use Rattle.answer.proofs.Samples.{accepted-size}
 use Rattle.answer.proofs.Blocks as checked
-use Rattle.answer.proofs.Refusals.{never-nought}
+use Rattle.answer.proofs.Refusals.{never_nought}
 use Rattle.answer.proofs.Told.{block-by}
 use Rattle.fold.specs.Fold.{state_after, out_after}
 use Rattle.fold.proofs.Parts.{out_at}
@@ -42,7 +42,7 @@ module _ (s : Settings) (a : Settable s) (f : SettingsF32 s) where
   heard-at m [] b fs w k h = absurd (not-suc-le-zero h)
   heard-at m (x ∷ xs) b fs w zero h =
       let fx = and_l (fits binary32 x) (all_f32 xs) fs in
-      record { accepted = accepts (leveller_of s m) a b; sample = w 0 h; by-f32 = (f, and_i (fits binary32 m.level) (all_f32 (x ∷ [])) b.fit (and_i (fits binary32 x) true fx tt)) }
+      record { accepted = accepts (leveller_of s m) a b; sample = w 0 h; by_f32 = (f, and_i (fits binary32 m.level) (all_f32 (x ∷ [])) b.fit (and_i (fits binary32 x) true fx tt)) }
   heard-at m (x ∷ xs) b fs w (suc k) h =
       heard-at (next s m x) xs (next-in s m x a b (and_l (fits binary32 x) (all_f32 xs) fs) (accepted-size x (w 0 (suc-le-suc zero-le)))) (and_r (fits binary32 x) (all_f32 xs) fs) (λ i l. w (suc i) (suc-le-suc l)) k (le_of_suc-le-suc h)
 
@@ -53,7 +53,7 @@ heard l xs out n f fs =
     let s = l.settings in
     let m = l.registers in
     block-by l xs out (λ t. t.0.number ≡ 0 → (k : ℕ) → k < length xs → Heard s (after s m (take k xs)) (get_or xs k nought)) (acceptable l)
-    (λ r n. absurd (never-nought r (sym n)))
+    (λ r n. absurd (never_nought r (sym n)))
     (λ t e _.
     let t' : T (acceptable l) = rw t tt in
     let a = is-settable s (and_l (settable s) (in_bounds m) t') f in
@@ -67,7 +67,7 @@ Gives l xs t = t.0.number ≡ 0 → t.1 ≡ outputs l.settings l.registers xs
 
 pub gives : (l : Leveller) (xs out : List Float) → Gives l xs (block l xs out)
 unfolding block
-gives l xs out = block-by l xs out (Gives l xs) (acceptable l) (λ r n. absurd (never-nought r (sym n))) (λ _ _ _. refl)
+gives l xs out = block-by l xs out (Gives l xs) (acceptable l) (λ r n. absurd (never_nought r (sym n))) (λ _ _ _. refl)
 
 pub given : (l : Leveller) (xs out : List Float) → (block l xs out).0.number ≡ 0
     → (k : ℕ) → k < length xs → get_or (block l xs out).1 k nought ≡ output l.settings (after l.settings l.registers (take k xs)) (get_or xs k nought)

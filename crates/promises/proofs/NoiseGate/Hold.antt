@@ -15,7 +15,7 @@ use Rattle.answer.specs.declared.Refusal.{Refusal}
 use Rattle.answer.specs.declared.Refusal.TheVariants.{OutOfRange, BadWorkedNumber, BadState}
 use Rattle.answer.specs.Refusals as Refusals
 use Rattle.answer.proofs.Told.{block-by}
-use Rattle.answer.proofs.Refusals.{never-nought}
+use Rattle.answer.proofs.Refusals.{never_nought}
 use Rattle.noise_gate_sample.specs.Step.{hold_product, hold_samples, held, counter}
 use Rattle.noise_gate_settings.specs.Ranges.{in_its_range, worked, with_setting}
 use Rattle.noise_gate_settings.specs.Names.{named}
@@ -39,7 +39,7 @@ typed-by g t P refusals d =
 
 -- ---- a done hold setting
 never_done : (r : Refusal) → Refusals.number r ≡ 0 → ⊥
-never_done r e = never-nought r (sym e)
+never_done r e = never_nought r (sym e)
 
 equal : (t : Bool) → (number (cond t Exact Cut) ≡ 1) ↔ T t
 equal true = (λ e. tt, λ h. refl)
@@ -80,7 +80,7 @@ module _ (g : Gate) where
   unfolding with_setting
   hold-keeps ms =
       typed-by g (Hold ms) (Keeps ms) (λ r. (λ _. refl, λ n. absurd (n refl)))
-      (λ e. absurd (words.never-nought (held (with_setting g.settings (Hold ms))).word e), λ n. (refl, refl))
+      (λ e. absurd (words.never_nought (held (with_setting g.settings (Hold ms))).word e), λ n. (refl, refl))
 
   typed : (t : Setting) → Tells (set_typed g t)
   typed (Threshold d k) = typed-by g (Threshold d k) Tells (λ r. neither refl refl) (neither refl refl)

@@ -154,5 +154,5 @@ settable-reached s k =
       made = m.0;
       since = as_calls (own s);
       left = rw m.1 (ap (λ (g : Gate). g.settings) (all_set (made_settings s.rate s.rising s.falling) (own s) ready (p.threshold, (p.ratio, (p.attack, (p.release, (p.hold, tt)))))) ∙ all_own s);
-      by-f32 = own-f32 s;
+      by_f32 = own-f32 s;
     }

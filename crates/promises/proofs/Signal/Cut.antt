@@ -7,7 +7,7 @@ use Prim.Native.Nat.{ℕ, ◌+◌}
 use lib.Ieee.{Float}
 use Rattle.answer.specs.Blocks.{checked_block}
 use Rattle.answer.specs.Told.{Told, done_passed}
-use Rattle.answer.proofs.Refusals.{never-nought}
+use Rattle.answer.proofs.Refusals.{never_nought}
 use Rattle.answer.proofs.Told.{block-by}
 use Rattle.fold.specs.Fold.{state_after, out_after}
 use Rattle.fold.proofs.Parts.{state-parts, out-parts}
@@ -66,7 +66,7 @@ module _ {S : Type 0} (run : Run S) (quiet : S → ℕ) where
     checked-runs : (s : S) (xs out : List Float) → (checked s xs out).0.number ≡ 0 → checked s xs out ≡ ran s xs
     checked-runs s xs out =
         block-by s xs out {rest = ran s xs} (λ t. t.0.number ≡ 0 → t ≡ ran s xs) (acceptable s)
-        (λ r n. absurd (never-nought r (sym n)))
+        (λ r n. absurd (never_nought r (sym n)))
         (λ _ _ _. refl)
 
     pub checked-cut : AnyCut checked

@@ -11,7 +11,7 @@ returns c =
     let a = c.args in
     let w = c.wrapping_sub_u64 in
     let l = c.lacks in record {
-      lo_value = ⊎_elim
+      value = ⊎_elim
           (λ g. subst (λ (x : ℕ). (a.ah - a.bh - x) * 18446744073709551616 + w.result ≡ a.ah * 18446744073709551616 + a.al - (a.bh * 18446744073709551616 + a.bl)) (sym g.0) (minus-less a.ah a.al a.bh a.bl w.result (omega arith) g.1 (omega arith) (omega arith) w.ensures.value))
           (λ g. subst (λ (x : ℕ). x * 18446744073709551616 + w.result ≡ a.ah * 18446744073709551616 + a.al - (a.bh * 18446744073709551616 + a.bl)) {x = a.ah - a.bh} (omega (arith, g.0)) (minus-more a.ah a.al a.bh a.bl w.result (omega arith) g.1 (omega arith) w.ensures.value))
           l.ensures;

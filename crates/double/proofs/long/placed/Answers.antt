@@ -4,4 +4,4 @@ use Rattle.rounding.proofs.Words.{placed-is, placed-lt}
 use Rattle.double.proofs.long.placed.Goals as goal
 
 pub returns : goal.returns
-returns c = record { lo_value = placed-is c.args.q c.args.t (omega arith); hi_bound = placed-lt c.args.q c.args.t (omega arith) (omega arith) }
+returns c = record { value = placed-is c.args.q c.args.t (omega arith); hi_bound = placed-lt c.args.q c.args.t (omega arith) (omega arith) }

@@ -57,7 +57,7 @@ returns c =
     let q = small c.before in
     let whole =
     carried (a / 4294967296 * (b / 4294967296)) (a / 4294967296 * (b % 4294967296)) (a % 4294967296 * (b / 4294967296)) (a % 4294967296 * (b % 4294967296)) c.wrapping_add_u64.result q.1 q.2 q.0 c.wrapping_add_u64.ensures.value in record {
-      lo_value = whole
+      value = whole
           ∙ omega arith
           ∙ sym (spread 4294967296 (a / 4294967296) (a % 4294967296) (b / 4294967296) (b % 4294967296))
           ∙ ap (λ (x : ℕ). x * (b / 4294967296 * 4294967296 + b % 4294967296)) (div-add-mod' a 4294967296)

@@ -25,4 +25,4 @@ pub returns : goal.returns
 returns c =
     let h = head c.args.hi c.args.lo (omega arith) (omega arith) (omega arith) in
     let b = h.of-head c.stuck.result c.stuck.ensures in
-    record { m_least = b.0; m_bound = b.1.0; sticky = b.1.1; le_k = omega arith; k_bound = omega arith }
+    record { m_least = b.0; m_bound = b.1.0; sticky = b.1.1; k_least = omega arith; k_bound = omega arith }

@@ -38,7 +38,7 @@ pub overflow_add-d : goal.overflow_add-d
 overflow_add-d c = record { fits = fitting c.args.d c.requires.d_bound }
 
 pub placed-v-requires : goal.placed-v-requires
-placed-v-requires c = let m = moved c.args.d c.requires.d_bound in record { le_t = m.0; t_bound = m.1 }
+placed-v-requires c = let m = moved c.args.d c.requires.d_bound in record { t_least = m.0; t_bound = m.1 }
 
 pub joined-requires : goal.joined-requires
 joined-requires c =
@@ -53,16 +53,16 @@ joined-requires c =
     let t = 64 - (a.d + 3) in
     let few = pre.d_bound in
     let pq = product (a.i % 4503599627370496) (a.j % 4503599627370496) (mod-lt a.i (lit< tt)) (mod-lt a.j (lit< tt)) in
-    let hi = upper p.result.hi p.result.lo (x * y) p.ensures.lo_value p.ensures.lo_bound pq.0 pq.1 in
-    let ex = exponents (a.i % 9223372036854775808 / 4503599627370496) (a.j % 9223372036854775808 / 4503599627370496) (a.k % 9223372036854775808 / 4503599627370496) a.d n.apart few n.c-some n.c-most in
+    let hi = upper p.result.hi p.result.lo (x * y) p.ensures.value p.ensures.lo_bound pq.0 pq.1 in
+    let ex = exponents (a.i % 9223372036854775808 / 4503599627370496) (a.j % 9223372036854775808 / 4503599627370496) (a.k % 9223372036854775808 / 4503599627370496) a.d n.apart few n.c_some n.c_most in
     record {
       c_value = pre.c_value
           ∙ near-whole binary64 a.i a.j a.k (72 - a.d) (p.result.hi * 18446744073709551616 + p.result.lo) (v.result.hi * 18446744073709551616 + v.result.lo) n
-          (p.ensures.lo_value ∙ ap (λ (w : ℕ). w * y) (significand-normal binary64 a.i n.a-some) ∙ ap (λ (w : ℕ). significand 4503599627370496 (a.i % 9223372036854775808) * w) (significand-normal binary64 a.j n.b-some))
-          (v.ensures.lo_value ∙ ap (λ (w : ℕ). w * 2 ^ t) (zeros a.k (omega (arith, n.c-some))) ∙ mul_assoc q 2048 (2 ^ t) ∙ ap (λ (w : ℕ). q * w) (sym (pow-add 2 11 t) ∙ ap (λ (w : ℕ). 2 ^ w) (omega arith)));
+          (p.ensures.value ∙ ap (λ (w : ℕ). w * y) (significand-normal binary64 a.i n.a_some) ∙ ap (λ (w : ℕ). significand 4503599627370496 (a.i % 9223372036854775808) * w) (significand-normal binary64 a.j n.b_some))
+          (v.ensures.value ∙ ap (λ (w : ℕ). w * 2 ^ t) (zeros a.k (omega (arith, n.c_some))) ∙ mul_assoc q 2048 (2 ^ t) ∙ ap (λ (w : ℕ). q * w) (sym (pow-add 2 11 t) ∙ ap (λ (w : ℕ). 2 ^ w) (omega arith)));
       ph_nonzero = hi.0;
       ph_bound = hi.1;
       vh_bound = v.ensures.hi_bound;
-      le_x = ex.0;
+      x_least = ex.0;
       x_bound = ex.1;
     }

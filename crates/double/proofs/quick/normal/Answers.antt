@@ -10,12 +10,12 @@ use Rattle.double.proofs.quick.normal.Goals as goal
 pub overflow_add-x : goal.overflow_add-x
 overflow_add-x c =
     let g = c.top-g in
-    omega (arith, c.kept.ensures, g.ensures.le_k, closest-most g.result.m 10 g.ensures.m_bound (omega arith))
+    omega (arith, c.kept.ensures, g.ensures.k_least, closest-most g.result.m 10 g.ensures.m_bound (omega arith))
 
 pub signed-requires : goal.signed-requires
 signed-requires c =
     let g = c.top-g in
-    omega (arith, c.kept.ensures, g.ensures.le_k, closest-most g.result.m 10 g.ensures.m_bound (omega arith))
+    omega (arith, c.kept.ensures, g.ensures.k_least, closest-most g.result.m 10 g.ensures.m_bound (omega arith))
 
 pub returns : goal.returns
 returns c =
@@ -31,4 +31,4 @@ returns c =
     let x : k * 4503599627370496 % 18446744073709551616 ≡ k * 4503599627370496 = mod-eq_of_lt (omega arith) in
     c.signed.ensures
     ∙ ap (λ (z : ℕ). of_bits binary64 (cond a.s 9223372036854775808 0 + (z + n.result))) x
-    ∙ made-below binary64 a.s (v * 2 ^ (a.x - 2)) g.result.m e 1074 n.result g.ensures.m_least g.ensures.m_bound st k (omega (arith, g.ensures.le_k, g.ensures.k_bound)) n.ensures (omega arith)
+    ∙ made-below binary64 a.s (v * 2 ^ (a.x - 2)) g.result.m e 1074 n.result g.ensures.m_least g.ensures.m_bound st k (omega (arith, g.ensures.k_least, g.ensures.k_bound)) n.ensures (omega arith)

@@ -16,13 +16,13 @@ pub returns-then-lo-eq0 : goal.returns-then-lo-eq0
 returns-then-lo-eq0 c =
     let a = c.args in
     let r = c.sticky.ensures in
-    record { lo_value = zero-add c.sticky.result ∙ r ∙ sym (stick-62 a.hi a.lo a.s (omega arith) (omega arith) c.if-lo-eq0.true); result_bound = omega (arith, stick-self a.hi (a.s - 62)) }
+    record { value = zero-add c.sticky.result ∙ r ∙ sym (stick-62 a.hi a.lo a.s (omega arith) (omega arith) c.if-lo-eq0.true); result_bound = omega (arith, stick-self a.hi (a.s - 62)) }
 
 pub returns-then-s-ge62 : goal.returns-then-s-ge62
 returns-then-s-ge62 c =
     let a = c.args in
     let r = c.sticky-then-s-ge62.ensures in
-    record { lo_value = zero-add c.sticky-then-s-ge62.result ∙ r ∙ sym (stick-62-odd a.hi a.lo a.s (omega arith) (omega arith) c.if-lo-eq0.false); result_bound = omega (arith, stick-self (a.hi + (1 - a.hi % 2)) (a.s - 62)) }
+    record { value = zero-add c.sticky-then-s-ge62.result ∙ r ∙ sym (stick-62-odd a.hi a.lo a.s (omega arith) (omega arith) c.if-lo-eq0.false); result_bound = omega (arith, stick-self (a.hi + (1 - a.hi % 2)) (a.s - 62)) }
 
 pub nonzero_rem-l : goal.nonzero_rem-l
 nonzero_rem-l c = omega (arith, one_shl c.args.s (omega arith), pow_pos c.args.s)
@@ -41,7 +41,7 @@ returns-then-lo-s-eq0 c =
     let h : a.lo < 4611686018427387904 = omega arith in
     let k : a.s ≤ 62 = omega arith in
     let e = low-is a.hi a.lo a.s h k in
-    record { lo_value = ap (λ (x : ℕ). a.hi / 2 ^ a.s * 4611686018427387904 + x) e ∙ cut-whole a.hi a.lo a.s h k (ap (λ (x : ℕ). a.lo % x) (sym (one_shl a.s (omega arith))) ∙ c.if-lo-s-eq0.true); result_bound = subst (λ (x : ℕ). x < 4611686018427387904) (sym e) (lower-lt a.hi a.lo a.s h k) }
+    record { value = ap (λ (x : ℕ). a.hi / 2 ^ a.s * 4611686018427387904 + x) e ∙ cut-whole a.hi a.lo a.s h k (ap (λ (x : ℕ). a.lo % x) (sym (one_shl a.s (omega arith))) ∙ c.if-lo-s-eq0.true); result_bound = subst (λ (x : ℕ). x < 4611686018427387904) (sym e) (lower-lt a.hi a.lo a.s h k) }
 
 pub overflow_add-result : goal.overflow_add-result
 overflow_add-result c =
@@ -56,7 +56,7 @@ returns c =
     let e = low-is a.hi a.lo a.s h k in
     let l = lower-lt a.hi a.lo a.s h k in
     record {
-      lo_value = ap (λ (x : ℕ). a.hi / 2 ^ a.s * 4611686018427387904 + (x + (1 - x % 2))) e ∙ cut-some a.hi a.lo a.s h k (λ (z : a.lo % 2 ^ a.s ≡ 0). c.if-lo-s-eq0.false (ap (λ (x : ℕ). a.lo % x) (one_shl a.s (omega arith)) ∙ z));
+      value = ap (λ (x : ℕ). a.hi / 2 ^ a.s * 4611686018427387904 + (x + (1 - x % 2))) e ∙ cut-some a.hi a.lo a.s h k (λ (z : a.lo % 2 ^ a.s ≡ 0). c.if-lo-s-eq0.false (ap (λ (x : ℕ). a.lo % x) (one_shl a.s (omega arith)) ∙ z));
       result_bound = subst (λ (x : ℕ). x + (1 - x % 2) < 4611686018427387904) (sym e) (odd-below (lower a.hi a.lo a.s h k) l);
     }
   where

@@ -31,4 +31,4 @@ pub overflow_add-result-2 : goal.overflow_add-result-2
 overflow_add-result-2 c = omega (arith, halves c.args.a c.args.b (omega arith) (omega arith))
 
 pub returns : goal.returns
-returns c = record { lo_value = omega (arith, product_is c.args.a c.args.b, halves c.args.a c.args.b (omega arith) (omega arith)); lo_bound = omega arith }
+returns c = record { value = omega (arith, product_is c.args.a c.args.b, halves c.args.a c.args.b (omega arith) (omega arith)); lo_bound = omega arith }

@@ -53,7 +53,7 @@ total-requires c =
     let xk : x.result.k ≤ 254 = omega (arith, x.ensures.1) in
     let yk : y.result.k ≤ 254 = omega (arith, y.ensures.1) in
     let zk : z.result.k ≤ 254 = omega (arith, z.ensures.1) in
-    record { u_bound = omega (arith, w.ensures.u_value); v_bound = omega (arith, w.ensures.v_value); le_e = omega (arith, w.ensures.e_value); e_bound = omega (arith, w.ensures.e_value) }
+    record { u_bound = omega (arith, w.ensures.u_value); v_bound = omega (arith, w.ensures.v_value); e_least = omega (arith, w.ensures.e_value); e_bound = omega (arith, w.ensures.e_value) }
 
 pub returns : goal.returns
 returns c =
