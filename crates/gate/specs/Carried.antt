@@ -22,7 +22,7 @@ pub record Carried (t : Turn) (size : ℕ) (left rest held now : Option (List �
   pub end : next ≡ End → IsAtEnd rest
   pub added : Appends held now (given (run_of t) block)
 
--- a run of turns from its beginning: full blocks, and where the input has ended a last one, to which nothing is left
+-- a run of turns from its beginning: full blocks, and where the input has ended a last one, behind which nothing is left
 pub record CarriedAll (left rest held now : Option (List ℕ)) (r : Turn) : Type 0 where
   pub blocks : List (List ℕ)
   pub full : Full blocks
