@@ -5,7 +5,7 @@
 # Types, facts and modules keep their camel case, and a dash goes on joining the parts of a lemma's name in proofs/. It reads the
 # proofs, the definitions, the code's clauses and comments, and, for the dashes, the must-fail edits. The code's own names,
 # exported names, strings, inputs and outputs are in none of these forms, so none of them moves. Three names would have
-# fallen together with others of their file, and one is IEEE 754's own: OTHER has them.
+# fallen together with others of their file, and one is IEEE 754's own: OTHER and OTHER_IN have them.
 import re
 import sys
 from pathlib import Path
