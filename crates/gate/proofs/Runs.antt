@@ -1,6 +1,6 @@
--- A run begins, goes on by a turn, and stops; what it says at the end of the input.
+-- A run begins and goes on by a turn; what it says at the end of the input.
 -- Assumes nothing.
-use Rattle.std.proofs.Common.{◌≡◌, ℕ, ◌-◌, ◌<◌, ◌≤◌, true, false, List, [], ◌∷◌, ◌++◌, length, sym, refl, ap, ◌∙◌, inl, inr, arith, length-append}
+use Rattle.std.proofs.Common.{◌≡◌, ℕ, ◌-◌, ◌<◌, true, List, [], ◌∷◌, ◌++◌, length, sym, refl, ap, ◌∙◌, inl, inr, arith, length-append}
 use Rattle.fold.specs.Fold.{state_after}
 use Rattle.fold.proofs.Parts.{state-parts}
 use Rattle.noise_gate.specs.declared.Gate.{Gate}
@@ -16,11 +16,6 @@ pub next_more : (n : Next) → is_more n ≡ true → n ≡ More
 next_more More h = refl
 next_more End h = absurd (let z : ◌≡◌ {A = ℕ} 0 1 = cc in omega arith)
 next_more Failed h = absurd (let z : ◌≡◌ {A = ℕ} 0 1 = cc in omega arith)
-
-not_more : (n : Next) → is_more n ≡ false → n ≡ More → ⊥
-not_more More h e = let z : ◌≡◌ {A = ℕ} 0 1 = cc in omega arith
-not_more End h e = let z : ◌≡◌ {A = ℕ} 0 1 = cc in omega arith
-not_more Failed h e = let z : ◌≡◌ {A = ℕ} 0 1 = cc in omega arith
 
 pub end_more : (n : Next) → n ≡ End → n ≡ More → ⊥
 end_more n h e = let z : ◌≡◌ {A = ℕ} 0 1 = cc in omega arith
@@ -74,13 +69,6 @@ module _ (u v : Turn) (left : ℕ) (some : 0 < left) (a : Along u left) (m : u.n
 pub goes : (u v : Turn) (left : ℕ) → 0 < left → Along u left → is_more u.next ≡ true → OneTurn u v → Along v (left - 1)
 goes u v left some a m (inl s) = failing v (left - 1) (ap (λ (t : Turn). t.next) s)
 goes u v left some a m (inr w) = by_next u v left some a (next_more u.next m) w.block w.next w.full w.turn
-
--- ---- it stops, where no more comes or no turn is left
-pub stops : (u : Turn) (left : ℕ) → Along u left → is_more u.next ≡ false → Along u 0
-stops u left a h = record { blocks = a.blocks; full = a.full; more = λ e. absurd (not_more u.next h e); last = a.last }
-
-pub used : (u : Turn) (left : ℕ) → Along u left → left ≤ 0 → Along u 0
-used u left a h = record { blocks = a.blocks; full = a.full; more = λ e. ((a.more e).0, omega (arith, (a.more e).1)); last = a.last }
 
 -- ---- and says what it has counted
 pub says : (u : Turn) → Along u 0 → u.next ≡ End → Said u.samples u.aimed
