@@ -14,7 +14,7 @@
 #include <stdint.h>
 
 /* Grows by one with each release that a host can tell from the one before; docs/RELEASES.md says how. */
-#define HOOFGLAZE_VERSION 10
+#define HOOFGLAZE_VERSION 11
 
 #ifdef __cplusplus
 extern "C" {
@@ -29,9 +29,9 @@ enum {
     HOOFGLAZE_STACK_FLOAT = 256, /* float arithmetic, follower and DC blocker */
     HOOFGLAZE_STACK_GATE = 1024,
     HOOFGLAZE_STACK_CLIP = 1280,
-    HOOFGLAZE_STACK_EQ = 8192,
+    HOOFGLAZE_STACK_EQ = 4096,
     HOOFGLAZE_STACK_TONE = 512,
-    HOOFGLAZE_STACK_SATURATOR = 3072,
+    HOOFGLAZE_STACK_SATURATOR = 2048,
     HOOFGLAZE_STACK_LEVELLER = 512,
     HOOFGLAZE_STACK_WAVE = 256
 };

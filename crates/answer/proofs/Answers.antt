@@ -1,53 +1,42 @@
 -- What a call tells gives its state and its answer back: no two answers tell the same, in words or in the numbers that cross to a host.
 -- Assumes nothing.
+use Rattle.std.specs.Prelude.{Float, Result, Ok, Err, MatchResult, ⊤}
 use mathlib.Core.Path.{◌≡◌, refl, sym, ap}
-use Prim.Native.Nat.{ℕ}
-use Rattle.float.specs.Truncating as truncating
-use Rattle.float.specs.declared.Truncation.{Truncation}
-use Rattle.answer.specs.Told.{Told, done_hold, done_passed, told, told_read}
-use Rattle.answer.specs.Crossing.{told_in, of_refusal, of_done, of_hold, of_passed, of_answer, of_reading}
-use Rattle.answer.specs.declared.Answer.{Answer}
-use Rattle.answer.specs.declared.Answer.TheVariants as answer
-use Rattle.answer.specs.declared.Reading.{Reading}
-use Rattle.answer.specs.declared.Reading.TheVariants as reading
+use Rattle.answer.specs.Told.{Told, told, told_read}
+use Rattle.answer.specs.Crossing.{told_in, of_refusal, of_done}
+use Rattle.answer.specs.Figures.{nought}
+use Rattle.answer.specs.declared.Numbered.{Numbered}
+use Rattle.answer.specs.declared.Refusal.{Refusal}
 use Rattle.answer.proofs.Refusals.{one-to-one, never_nought}
 
 module _ {S : Type 0} {s t : S} where
-  pub answer_back : (a b : Answer) → told s a ≡ told t b → (s ≡ t) × (a ≡ b)
-  answer_back answer.Done answer.Done e = (ap (λ (w : Told S). w.state) e, refl)
-  answer_back answer.Done (answer.Refused r) e = absurd (never_nought r (ap (λ (w : Told S). w.number) e))
-  answer_back (answer.Refused q) answer.Done e = absurd (never_nought q (sym (ap (λ (w : Told S). w.number) e)))
-  answer_back (answer.Refused q) (answer.Refused r) e =
-      (ap (λ (w : Told S). w.state) e, ap answer.Refused (one-to-one q r (ap (λ (w : Told S). w.number) e) (ap (λ (w : Told S). w.place) e)))
+  pub answer_back : (a b : Result ⊤ Refusal) → told s a ≡ told t b → (s ≡ t) × (a ≡ b)
+  answer_back (Ok _) (Ok _) e = (ap (λ (w : Told S). w.state) e, refl)
+  answer_back (Ok _) (Err r) e = absurd (never_nought r (ap (λ (w : Told S). w.number) e))
+  answer_back (Err q) (Ok _) e = absurd (never_nought q (sym (ap (λ (w : Told S). w.number) e)))
+  answer_back (Err q) (Err r) e =
+      (ap (λ (w : Told S). w.state) e, ap Err (one-to-one q r (ap (λ (w : Told S). w.number) e) (ap (λ (w : Told S). w.place) e)))
 
-  pub reading-back : (a b : Reading) → told_read s a ≡ told_read t b → (s ≡ t) × (a ≡ b)
-  reading-back (reading.Done x) (reading.Done y) e = (ap (λ (w : Told S). w.state) e, ap reading.Done (ap (λ (w : Told S). w.value) e))
-  reading-back (reading.Done x) (reading.Refused r) e = absurd (never_nought r (ap (λ (w : Told S). w.number) e))
-  reading-back (reading.Refused q) (reading.Done y) e = absurd (never_nought q (sym (ap (λ (w : Told S). w.number) e)))
-  reading-back (reading.Refused q) (reading.Refused r) e =
-      (ap (λ (w : Told S). w.state) e, ap reading.Refused (one-to-one q r (ap (λ (w : Told S). w.number) e) (ap (λ (w : Told S). w.place) e)))
+  pub reading-back : (a b : Result Float Refusal) → told_read s a ≡ told_read t b → (s ≡ t) × (a ≡ b)
+  reading-back (Ok x) (Ok y) e = (ap (λ (w : Told S). w.state) e, ap Ok (ap (λ (w : Told S). w.value) e))
+  reading-back (Ok x) (Err r) e = absurd (never_nought r (ap (λ (w : Told S). w.number) e))
+  reading-back (Err q) (Ok y) e = absurd (never_nought q (sym (ap (λ (w : Told S). w.number) e)))
+  reading-back (Err q) (Err r) e =
+      (ap (λ (w : Told S). w.state) e, ap Err (one-to-one q r (ap (λ (w : Told S). w.number) e) (ap (λ (w : Told S). w.place) e)))
 
 -- ---- an answer that crosses tells what the answer tells
-module _ {S : Type 0} (s : S) where
-  pub answer-crosses : (a : Answer) → told_in s (of_answer a) ≡ told s a
-  unfolding of_answer of_refusal of_done
-  answer-crosses answer.Done = refl
-  answer-crosses (answer.Refused r) = refl
+module _ {S : Type 0} (s : S) {n : Numbered} where
+  pub answer-crosses : (a : Result ⊤ Refusal) → MatchResult a (λ _. n ≡ of_done 0 nought) (λ r. n ≡ of_refusal r) → told_in s n ≡ told s a
+  unfolding of_done of_refusal
+  answer-crosses (Ok _) e = rw e refl
+  answer-crosses (Err r) e = rw e refl
 
-  pub hold-crosses : (t : Truncation) → told_in s (of_hold t) ≡ done_hold s t.whole (truncating.number t.word)
-  unfolding of_hold
-  hold-crosses t = refl
-
-  pub passed-crosses : (count quiet : ℕ) → told_in s (of_passed count quiet) ≡ done_passed s count quiet
-  unfolding of_passed
-  passed-crosses count quiet = refl
-
-  pub reading-crosses : (a : Reading) → told_in s (of_reading a) ≡ told_read s a
-  unfolding of_reading of_refusal of_done
-  reading-crosses (reading.Done value) = refl
-  reading-crosses (reading.Refused r) = refl
+  pub reading-crosses : (a : Result Float Refusal) → MatchResult a (λ x. n ≡ of_done 0 x) (λ r. n ≡ of_refusal r) → told_in s n ≡ told_read s a
+  unfolding of_done of_refusal
+  reading-crosses (Ok x) e = rw e refl
+  reading-crosses (Err r) e = rw e refl
 
 -- ---- what is told of a call holds the state after it
-pub state-told : {S : Type 0} (s : S) (a : Answer) {t : Told S} → told s a ≡ t → s ≡ t.state
-state-told {S} s answer.Done e = ap (λ (w : Told S). w.state) e
-state-told {S} s (answer.Refused r) e = ap (λ (w : Told S). w.state) e
+pub state-told : {S : Type 0} (s : S) (a : Result ⊤ Refusal) {t : Told S} → told s a ≡ t → s ≡ t.state
+state-told {S} s (Ok _) e = ap (λ (w : Told S). w.state) e
+state-told {S} s (Err r) e = ap (λ (w : Told S). w.state) e

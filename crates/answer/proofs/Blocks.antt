@@ -1,5 +1,6 @@
 -- A block that is accepted: the lengths agree, it is no longer than the longest, and none of its samples is refused.
 -- Assumes nothing.
+use Rattle.std.specs.Prelude.{Result, Ok, Err, ⊤}
 use mathlib.Core.Path.{◌≡◌, refl}
 use mathlib.Core.Bool.{Bool, true, false}
 use mathlib.Core.List.{List}
@@ -13,7 +14,6 @@ use borrow.Author.Tests.{eqb-true, leb-true}
 use Rattle.answer.specs.Figures.{longest_block}
 use Rattle.answer.specs.Checks.{is_refused, first_refused, check_block}
 use Rattle.answer.specs.declared.Refusal.{Refusal}
-use Rattle.answer.specs.declared.Check.TheVariants.{Accepted, Refused}
 use Rattle.answer.proofs.Samples.{before-first}
 
 pub record Block (samples : List Float) (places : ℕ) : Type 0 where
@@ -21,10 +21,10 @@ pub record Block (samples : List Float) (places : ℕ) : Type 0 where
   pub few : length samples ≤ longest_block
   pub none-refused : (k : ℕ) (d : Float) → k < length samples → is_refused (get_or samples k d) ≡ false
 
-refuted : {r : Refusal} → Refused r ≡ Accepted → ⊥
+refuted : {r : Refusal} → ◌≡◌ {A = Result ⊤ Refusal} (Err r) (Ok tt) → ⊥
 refuted e = let z : ◌≡◌ {A = ℕ} 0 1 = cc in omega arith
 
-pub accepted : (samples : List Float) (places : ℕ) → check_block samples places ≡ Accepted → Block samples places
+pub accepted : (samples : List Float) (places : ℕ) → check_block samples places ≡ (Ok tt) → Block samples places
 unfolding check_block
 accepted samples places e = go (eqb (length samples) places) (leb (length samples) longest_block) (leb (length samples) (first_refused samples)) refl refl refl
   where

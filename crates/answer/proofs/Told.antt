@@ -1,5 +1,6 @@
 -- A call that is a chain of tests, each with its refusal, and then done, leaves its state where it is refused; a block its buffer too.
 -- Assumes nothing.
+use Rattle.std.specs.Prelude.{Result, Ok, Err, ⊤}
 use mathlib.Core.Path.{◌≡◌, refl}
 use mathlib.Core.Bool.{Bool, true, false}
 use mathlib.Core.List.{List}
@@ -10,8 +11,6 @@ use Rattle.answer.specs.Told.{Told, refused, unless, Unchanged}
 use Rattle.answer.specs.Blocks.{passing, checked_block, BlockUnchanged}
 use Rattle.answer.specs.declared.Refusal.{Refusal}
 use Rattle.answer.specs.declared.Refusal.TheVariants.{BadState}
-use Rattle.answer.specs.declared.Check.{Check}
-use Rattle.answer.specs.declared.Check.TheVariants.{Accepted, Refused}
 
 module _ {S : Type 0} {s : S} where
   pub unchanged-done : {t : Told S} → t.number ≡ 0 → Unchanged s t
@@ -23,11 +22,11 @@ module _ {S : Type 0} {s : S} where
 
 -- ---- a block: what holds of every refusal of it, and of what its samples do, holds of it
 module _ {S : Type 0} (s : S) (samples out : List Float) {rest : Told S × List Float} (P : Told S × List Float → Type 0) where
-  checked-by : ((r : Refusal) → P (refused s r, out)) → (check : Check) → (check ≡ Accepted → P rest) → P (passing s out rest check)
-  checked-by refusals Accepted passes = passes refl
-  checked-by refusals (Refused r) passes = refusals r
+  checked-by : ((r : Refusal) → P (refused s r, out)) → (check : Result ⊤ Refusal) → (check ≡ (Ok tt) → P rest) → P (passing s out rest check)
+  checked-by refusals (Ok tt) passes = passes refl
+  checked-by refusals (Err r) passes = refusals r
 
-  pub block-by : (acceptable : Bool) → ((r : Refusal) → P (refused s r, out)) → (acceptable ≡ true → check_block samples (length out) ≡ Accepted → P rest) → P (checked_block s out rest acceptable samples)
+  pub block-by : (acceptable : Bool) → ((r : Refusal) → P (refused s r, out)) → (acceptable ≡ true → check_block samples (length out) ≡ (Ok tt) → P rest) → P (checked_block s out rest acceptable samples)
   unfolding checked_block
   block-by true refusals passes = checked-by refusals (check_block samples (length out)) (passes refl)
   block-by false refusals passes = refusals BadState

@@ -7,10 +7,6 @@ use Rattle.answer.specs.Figures.{nought}
 use Rattle.answer.specs.Refusals as Refusals
 use Rattle.answer.specs.Told.{Told}
 use Rattle.answer.specs.declared.Refusal.{Refusal}
-use Rattle.answer.specs.declared.Answer.{Answer}
-use Rattle.answer.specs.declared.Answer.TheVariants as answer
-use Rattle.answer.specs.declared.Reading.{Reading}
-use Rattle.answer.specs.declared.Reading.TheVariants as reading
 use Rattle.answer.specs.declared.Numbered.{Numbered}
 
 -- what it tells, s being the state after the call
@@ -28,13 +24,3 @@ of_hold t = record { number = 0; value = nought; place = 0; count = 0; samples =
 
 unfoldable pub of_passed : ℕ → ℕ → Numbered
 of_passed count quiet = record { number = 0; value = nought; place = 0; count = count; samples = 0; word = 0; quiet = quiet }
-
-unfoldable pub of_answer : Answer → Numbered
-unfolding of_refusal of_done
-of_answer answer.Done = of_done 0 nought
-of_answer (answer.Refused r) = of_refusal r
-
-unfoldable pub of_reading : Reading → Numbered
-unfolding of_refusal of_done
-of_reading (reading.Done value) = of_done 0 value
-of_reading (reading.Refused r) = of_refusal r

@@ -1,13 +1,9 @@
 -- What a call tells its host, in document 01's numbers, whatever the stage. Definitions only.
 -- Assumes nothing.
-use Rattle.std.specs.Prelude.{◌≡◌, ℕ, Bool, cond, eqb, Float}
+use Rattle.std.specs.Prelude.{◌≡◌, ℕ, Bool, cond, eqb, Float, Result, Ok, Err, ⊤}
 use Rattle.answer.specs.Figures.{nought}
 use Rattle.answer.specs.Refusals as Refusals
 use Rattle.answer.specs.declared.Refusal.{Refusal}
-use Rattle.answer.specs.declared.Answer.{Answer}
-use Rattle.answer.specs.declared.Answer.TheVariants as answer
-use Rattle.answer.specs.declared.Reading.{Reading}
-use Rattle.answer.specs.declared.Reading.TheVariants as reading
 
 -- the state after the call, the answer's number, its place, the count of samples aimed open, the value read or stepped, of a hold that was set its samples and the word of their truncation, and of a gate's block the quiet count
 pub record Told (S : Type 0) : Type 0 where
@@ -40,14 +36,19 @@ module _ {S : Type 0} (s : S) where
   done_passed n q = record { state = s; number = 0; place = 0; count = n; value = nought; samples = 0; word = 0; quiet = q }
 
   -- what an answer tells, s being the state after the call: of making and reset, and of a setting and a block but the gate's
-  abbrev pub told : Answer → Told S
-  told answer.Done = done
-  told (answer.Refused r) = refused r
+  abbrev pub told : Result ⊤ Refusal → Told S
+  told (Ok _) = done
+  told (Err r) = refused r
+
+  -- of making, s being what a refused making gives
+  abbrev pub told_made : Result S Refusal → Told S
+  told_made (Ok made) = record { state = made; number = 0; place = 0; count = 0; value = nought; samples = 0; word = 0; quiet = 0 }
+  told_made (Err r) = refused r
 
   -- of reading, and of a lone step
-  abbrev pub told_read : Reading → Told S
-  told_read (reading.Done value) = done_with 0 value
-  told_read (reading.Refused r) = refused r
+  abbrev pub told_read : Result Float Refusal → Told S
+  told_read (Ok value) = done_with 0 value
+  told_read (Err r) = refused r
 
 -- a test, the answer where it fails, and what is done where it holds
 abbrev pub unless : {A : Type 0} → Bool → A → A → A

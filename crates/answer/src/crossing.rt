@@ -1,70 +1,86 @@
 // An answer in document 01's numbers, as it crosses to a host.
-ghost use Rattle.std.specs.Prelude.{◌≡◌};
+ghost use Rattle.std.specs.Prelude.{◌≡◌, MatchOption, MatchResult};
 ghost use Rattle.answer.specs.Crossing as crossing;
+ghost use Rattle.answer.specs.Figures.{nought};
 
-use crate::{Answer, Numbered, Reading, Refusal, number, place};
+use crate::{Numbered, Refusal};
 use float::{Truncation, settled32};
 
-pub fn of_refusal(r: Refusal) -> Numbered
-    ensures { result ≡ crossing.of_refusal r }
-{
-    Numbered {
-        number: number(r),
-        value: 0.0,
-        place: place(r),
-        count: 0,
-        samples: 0,
-        word: 0,
-        quiet: 0,
+const DONE: Numbered = Numbered {
+    number: 0,
+    value: 0.0,
+    place: 0,
+    count: 0,
+    samples: 0,
+    word: 0,
+    quiet: 0,
+};
+
+impl From<Refusal> for Numbered {
+    ghost from_gives = { λ r n. n ≡ crossing.of_refusal r };
+
+    fn from(r: Refusal) -> Numbered {
+        Numbered {
+            number: r.number(),
+            place: r.place(),
+            ..DONE
+        }
     }
 }
 
-pub fn of_done(count: usize, value: f32) -> Numbered
-    ensures { result ≡ crossing.of_done count value }
-{
-    Numbered {
-        number: 0,
-        value: settled32(value),
-        place: 0,
-        count: count,
-        samples: 0,
-        word: 0,
-        quiet: 0,
+// Done, with no more to say.
+impl From<()> for Numbered {
+    ghost from_gives = { λ _ n. n ≡ crossing.of_done 0 nought };
+
+    fn from(_: ()) -> Numbered {
+        DONE
     }
 }
 
-pub fn of_hold(t: Truncation) -> Numbered
-    ensures { result ≡ crossing.of_hold t }
-{
-    let word = t.word;
-    let mut n = of_done(0, 0.0);
-    n.samples = t.whole;
-    n.word = float::word_number(word);
-    n
-}
+// Done, with a value read or stepped.
+impl From<f32> for Numbered {
+    ghost from_gives = { λ x n. n ≡ crossing.of_done 0 x };
 
-pub fn of_passed(count: usize, quiet: u32) -> Numbered
-    ensures { result ≡ crossing.of_passed count quiet }
-{
-    let mut n = of_done(count, 0.0);
-    n.quiet = quiet;
-    n
-}
-
-pub fn of_answer(a: Answer) -> Numbered
-    ensures { result ≡ crossing.of_answer a }
-{
-    match a {
-        Answer::Done => of_done(0, 0.0),
-        Answer::Refused(r) => of_refusal(r),
+    fn from(value: f32) -> Numbered {
+        Numbered {
+            value: settled32(value),
+            ..DONE
+        }
     }
 }
 
-pub fn of_reading(a: Reading) -> Numbered
-    ensures { result ≡ crossing.of_reading a }
-{
-    match a {
-        Reading::Done(value) => of_done(0, value),
-        Reading::Refused(r) => of_refusal(r),
+// A hold that was set.
+impl From<Truncation> for Numbered {
+    ghost from_gives = { λ t n. n ≡ crossing.of_hold t };
+
+    fn from(t: Truncation) -> Numbered {
+        Numbered {
+            samples: t.whole,
+            word: u32::from(t.word),
+            ..DONE
+        }
+    }
+}
+
+// A gate's setting: a hold's, or another, which has no more to say.
+impl From<Option<Truncation>> for Numbered {
+    ghost from_gives = { λ o n. MatchOption o (n ≡ crossing.of_done 0 nought) (λ t. n ≡ crossing.of_hold t) };
+
+    fn from(held: Option<Truncation>) -> Numbered {
+        match held {
+            Some(t) => t.into(),
+            None => ().into(),
+        }
+    }
+}
+
+impl<T: Into<Numbered>> From<Result<T, Refusal>> for Numbered {
+    ghost from_gives = { λ a n. MatchResult a (λ x. T.converts x n) (λ r. n ≡ crossing.of_refusal r) };
+
+    fn from(a: Result<T, Refusal>) -> Numbered {
+        match a {
+            Ok(x) => x.into(),
+            Err(r) => r.into(),
+        }
     }
 }

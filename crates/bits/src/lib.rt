@@ -2,76 +2,48 @@
 // share. Every function is total.
 #![tactic(auto)]
 
-ghost use Rattle.std.specs.Prelude.{◌≡◌, ◌-◌, ◌*◌, ◌/◌, ◌^◌, ◌<◌, min};
+ghost use Rattle.std.specs.Prelude.{◌≡◌, ◌-◌, ◌*◌, ◌/◌, ◌^◌, ◌<◌};
 ghost use Rattle.std.specs.Float.{binary32, binary64};
 ghost use Rattle.std.specs.Float.Ieee.{of_bits, to_bits};
 ghost use Rattle.std.specs.Float.Ieee.Nearest.{closest};
 ghost use Rattle.rounding.specs.Steps as Steps;
 
-// The two infinities' patterns without their sign: a NaN's lies above.
-const INFINITY32: u32 = 0x7f80_0000;
-
-const INFINITY64: u64 = 0x7ff0_0000_0000_0000;
-
-const SIGN32: u32 = 0x8000_0000;
-
-const SIGN64: u64 = 0x8000_0000_0000_0000;
-
-// The one NaN of each width that is returned.
-const NAN32: u32 = 0x7fc0_0000;
-
-const NAN64: u64 = 0x7ff8_0000_0000_0000;
-
 // x, and any NaN as 7FC00000.
 pub fn settled32(x: f32) -> f32
     ensures { result ≡ x }
 {
-    if x != x { 0.0 / 0.0 } else { x }
+    if x.is_nan() { f32::NAN } else { x }
 }
 
 // x, and any NaN as 7FF8000000000000.
 pub fn settled64(x: f64) -> f64
     ensures { result ≡ x }
 {
-    if x != x { 0.0 / 0.0 } else { x }
+    if x.is_nan() { f64::NAN } else { x }
 }
 
 pub fn bits32(x: f32) -> u32
     ensures { result ≡ to_bits binary32 x }
 {
-    if x != x { NAN32 } else { f32::to_bits(x) }
+    std::num::f32_to_bits_with_nan(x)
 }
 
 pub fn bits64(x: f64) -> u64
     ensures { result ≡ to_bits binary64 x }
 {
-    if x != x { NAN64 } else { f64::to_bits(x) }
+    std::num::f64_to_bits_with_nan(x)
 }
 
 pub fn from_bits32(n: u32) -> f32
     ensures { result ≡ of_bits binary32 n }
 {
-    if INFINITY32 < n % SIGN32 {
-        0.0 / 0.0
-    } else {
-        f32::from_bits(n)
-    }
+    settled32(std::num::f32_from_bits_with_nan(n))
 }
 
 pub fn from_bits64(n: u64) -> f64
     ensures { result ≡ of_bits binary64 n }
 {
-    if INFINITY64 < n % SIGN64 {
-        0.0 / 0.0
-    } else {
-        f64::from_bits(n)
-    }
-}
-
-pub fn least(a: u64, b: u64) -> u64
-    ensures { result ≡ min a b }
-{
-    if a < b { a } else { b }
+    settled64(std::num::f64_from_bits_with_nan(n))
 }
 
 // The number m * 2 ^ k.
@@ -105,10 +77,7 @@ pub fn part_of(b: u64, p: u64) -> Part
 pub fn exponent_of(m: u64, n: u64, k: u64) -> u64
     ensures { result ≡ Steps.exponent (m * n) k }
 {
-    if m == 0 {
-        return 0;
-    }
-    if n == 0 {
+    if m == 0 || n == 0 {
         return 0;
     }
     k
@@ -131,6 +100,23 @@ pub fn sticky(x: u64, s: u64) -> u64
     q + (1 - q % 2)
 }
 
+// The same of two words.
+pub fn sticky128(x: u128, s: u64) -> u128
+    ensures { result ≡ Steps.stick x s }
+{
+    if 127 < s {
+        if x == 0 {
+            return 0;
+        }
+        return 1;
+    }
+    let q = x >> s;
+    if x % (1 << s) == 0 {
+        return q;
+    }
+    q + (1 - q % 2)
+}
+
 // 2 ^ 64 / 2
 const HALF: u64 = 0x8000_0000_0000_0000;
 
@@ -139,12 +125,7 @@ fn nearest_far(n: u64, i: u64) -> u64
     requires { 63 < i }
     ensures { result ≡ closest n (2 ^ i) }
 {
-    if i == 64 {
-        if HALF < n {
-            return 1;
-        }
-    }
-    0
+    if i == 64 && HALF < n { 1 } else { 0 }
 }
 
 // n / 2 ^ i to the nearest whole number, a tie to the even one.

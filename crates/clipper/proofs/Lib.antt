@@ -1,4 +1,4 @@
--- The table's rule; a block without a state.
+-- The table's rule; a clamp.
 pub mod Entries
 pub mod Rule
-pub mod Each
+pub mod Clamp

@@ -1,8 +1,8 @@
 // The triode's curve: 256 constants, of which a lookup reads four.
-ghost use Rattle.std.specs.Prelude.{◌≡◌, ◌<◌};
+ghost use Rattle.std.specs.Prelude.{◌≡◌, ◌≤◌, ◌-◌, ◌+◌, min};
 ghost use Rattle.clipper.specs.Table.{entry};
 
-const TABLE: [f32; 256] = [
+static TABLE: [f32; 256] = [
     -1.0,
     -1.0,
     -1.0,
@@ -270,16 +270,17 @@ pub struct Around {
     pub p3: f32,
 }
 
-// The entries at four places. They are read together, since each reading of a constant table is a reading of all of it.
-pub fn read_around(i: usize, j: usize, k: usize, l: usize) -> Around
-    requires { (i < 256) × (j < 256) × (k < 256) × (l < 256) }
-    ensures { result ≡ record { p0 = entry i; p1 = entry j; p2 = entry k; p3 = entry l } }
-{
-    let table = TABLE;
-    Around {
-        p0: table[i],
-        p1: table[j],
-        p2: table[k],
-        p3: table[l],
+impl Around {
+    // The entries around the place i.
+    pub fn at(i: usize) -> Around
+        requires { i ≤ 254 }
+        ensures { result ≡ record { p0 = entry (i - 1); p1 = entry i; p2 = entry (min (i + 1) 255); p3 = entry (min (i + 2) 255) } }
+    {
+        Around {
+            p0: TABLE[i.saturating_sub(1)],
+            p1: TABLE[i],
+            p2: TABLE[(i + 1).min(255)],
+            p3: TABLE[(i + 2).min(255)],
+        }
     }
 }

@@ -1,9 +1,8 @@
 // A lookup in the triode's table: the place of an input, and the cubic through the four entries around it.
-ghost use Rattle.std.specs.Prelude.{◌≡◌, ◌≤◌, ◌-◌, ◌+◌, min};
+ghost use Rattle.std.specs.Prelude.{◌≡◌, ◌≤◌};
 ghost use Rattle.clipper.specs.Process as samples;
 
-use crate::sample::clamp;
-use crate::table;
+use crate::table::Around;
 
 const INPUT_MIN: f32 = -10.0;
 
@@ -14,77 +13,59 @@ pub fn process(input: f32) -> f32
 {
     let place = place_of(input);
     let i = index_of(place);
-    clamp(-1.0, 1.0, lookup(i, place - i as f32))
+    lookup(i, place - i as f32).clamp(-1.0, 1.0)
 }
 
 // Where the input lies in the table, counted in entries.
 fn place_of(input: f32) -> f32
     ensures { result ≡ samples.place input }
 {
-    let clamped = clamp(INPUT_MIN, INPUT_MAX, input);
+    let clamped = input.clamp(INPUT_MIN, INPUT_MAX);
     let normalized = (clamped - INPUT_MIN) / (INPUT_MAX - INPUT_MIN);
     normalized * 255.0
 }
 
+#[tactic(auto, unfolding(crate::specs::Process::index))]
 fn index_of(place: f32) -> usize
     ensures { (result ≡ samples.index place) × (result ≤ 254) }
 {
     let t = float::truncated(place);
-    least(t.whole as usize, 254)
+    (t.whole as usize).min(254)
 }
 
+#[tactic(auto, unfolding(crate::specs::Process::lookup))]
 fn lookup(i: usize, fraction: f32) -> f32
     requires { i ≤ 254 }
     ensures { result ≡ samples.lookup i fraction }
 {
-    let p = table::read_around(previous(i), i, least(i + 1, 255), least(i + 2, 255));
-    interpolated(p.p0, p.p1, p.p2, p.p3, fraction)
+    Around::at(i).interpolated(fraction)
 }
 
-// One less, and 0 from 0.
-fn previous(i: usize) -> usize
-    ensures { result ≡ i - 1 }
-{
-    if i == 0 { 0 } else { i - 1 }
-}
+impl Around {
+    #[tactic(auto, unfolding(crate::specs::Process::interpolated, crate::specs::Process::cubic))]
+    fn interpolated(self, fraction: f32) -> f32
+        ensures { result ≡ samples.interpolated self.p0 self.p1 self.p2 self.p3 fraction }
+    {
+        let first = float::fma32(self.coeff_a(), fraction, self.coeff_b());
+        let second = float::fma32(first, fraction, self.coeff_c());
+        float::fma32(second, fraction, self.p1)
+    }
 
-fn least(a: usize, b: usize) -> usize
-    ensures { result ≡ min a b }
-{
-    if a < b { a } else { b }
-}
+    fn coeff_a(self) -> f32
+        ensures { result ≡ samples.coeff_a self.p0 self.p1 self.p2 self.p3 }
+    {
+        float::fma32(-0.5, self.p0, 1.5 * self.p1) + float::fma32(-1.5, self.p2, 0.5 * self.p3)
+    }
 
-fn interpolated(p0: f32, p1: f32, p2: f32, p3: f32, fraction: f32) -> f32
-    ensures { result ≡ samples.interpolated p0 p1 p2 p3 fraction }
-{
-    let a = coeff_a(p0, p1, p2, p3);
-    let b = coeff_b(p0, p1, p2, p3);
-    let c = coeff_c(p0, p2);
-    cubic(a, b, c, p1, fraction)
-}
+    fn coeff_b(self) -> f32
+        ensures { result ≡ samples.coeff_b self.p0 self.p1 self.p2 self.p3 }
+    {
+        float::fma32(2.5, -self.p1, self.p0) + float::fma32(2.0, self.p2, -0.5 * self.p3)
+    }
 
-fn coeff_a(p0: f32, p1: f32, p2: f32, p3: f32) -> f32
-    ensures { result ≡ samples.coeff_a p0 p1 p2 p3 }
-{
-    float::fma32(-0.5, p0, 1.5 * p1) + float::fma32(-1.5, p2, 0.5 * p3)
-}
-
-fn coeff_b(p0: f32, p1: f32, p2: f32, p3: f32) -> f32
-    ensures { result ≡ samples.coeff_b p0 p1 p2 p3 }
-{
-    float::fma32(2.5, -p1, p0) + float::fma32(2.0, p2, -0.5 * p3)
-}
-
-fn coeff_c(p0: f32, p2: f32) -> f32
-    ensures { result ≡ samples.coeff_c p0 p2 }
-{
-    float::fma32(-0.5, p0, 0.5 * p2)
-}
-
-fn cubic(a: f32, b: f32, c: f32, p1: f32, fraction: f32) -> f32
-    ensures { result ≡ samples.cubic a b c p1 fraction }
-{
-    let first = float::fma32(a, fraction, b);
-    let second = float::fma32(first, fraction, c);
-    float::fma32(second, fraction, p1)
+    fn coeff_c(self) -> f32
+        ensures { result ≡ samples.coeff_c self.p0 self.p2 }
+    {
+        float::fma32(-0.5, self.p0, 0.5 * self.p2)
+    }
 }

@@ -1,9 +1,10 @@
 // The DC blocker.
 ghost use Rattle.std.specs.Prelude.{◌≡◌};
-ghost use Rattle.answer.specs.Told.{told, told_read};
+ghost use Rattle.answer.specs.Checks.{is_smoothing, nine};
+ghost use Rattle.answer.specs.Told.{told, told_made, told_read};
 ghost use Rattle.common.specs.Blocker as blocker;
 
-use answer::{Answer, Reading, Refusal};
+use answer::Refusal;
 
 #[repr(C)]
 #[derive(Clone, Copy)]
@@ -11,18 +12,6 @@ pub struct Blocker {
     pub c: f32,
     pub x1: f32,
     pub y1: f32,
-}
-
-#[derive(Clone, Copy)]
-pub struct Answered {
-    pub blocker: Blocker,
-    pub answer: Answer,
-}
-
-#[derive(Clone, Copy)]
-pub struct Stepped {
-    pub blocker: Blocker,
-    pub output: Reading,
 }
 
 // The blocker after a sample x, for any bits. Its y1 is the output.
@@ -37,62 +26,57 @@ pub fn blocked(b: Blocker, x: f32) -> Blocker
     }
 }
 
-pub fn make(c: f32) -> Answered
-    ensures { told result.blocker result.answer ≡ blocker.make c }
-{
-    if answer::is_smoothing(c) {
-        Answered {
-            blocker: Blocker {
-                c: c,
-                x1: 0.0,
-                y1: 0.0,
-            },
-            answer: Answer::Done,
-        }
-    } else {
-        Answered {
-            blocker: Blocker {
-                c: 1.0,
-                x1: 0.0,
-                y1: 0.0,
-            },
-            answer: Answer::Refused(Refusal::BadWorkedNumber),
-        }
-    }
-}
+const UNMADE: Blocker = Blocker {
+    c: 1.0,
+    x1: 0.0,
+    y1: 0.0,
+};
 
-pub fn step(b: Blocker, x: f32) -> Stepped
-    ensures { told_read result.blocker result.output ≡ blocker.step b x }
-{
-    if answer::is_smoothing(b.c) {
-        let next = blocked(b, x);
-        Stepped {
-            blocker: next,
-            output: Reading::Done(next.y1),
-        }
-    } else {
-        Stepped {
-            blocker: b,
-            output: Reading::Refused(Refusal::BadState),
-        }
+impl Blocker {
+    // What a refused making gives.
+    pub fn unmade() -> Blocker
+        ensures { result ≡ blocker.unmade }
+    {
+        UNMADE
     }
-}
 
-pub fn reset(b: Blocker) -> Answered
-    ensures { told result.blocker result.answer ≡ blocker.reset b }
-{
-    if answer::is_smoothing(b.c) {
-        let mut rested = b;
-        rested.x1 = 0.0;
-        rested.y1 = 0.0;
-        Answered {
-            blocker: rested,
-            answer: Answer::Done,
+    #[tactic(auto, unfolding(crate::specs::Blocker::make))]
+    pub fn make(c: f32) -> Result<Blocker, Refusal>
+        ensures { told_made blocker.unmade result ≡ blocker.make c }
+    {
+        if !answer::is_smoothing(c) {
+            return Err(Refusal::BadWorkedNumber);
         }
-    } else {
-        Answered {
-            blocker: b,
-            answer: Answer::Refused(Refusal::BadState),
-        }
+        Ok(Blocker {
+            c,
+            x1: 0.0,
+            y1: 0.0,
+        })
+    }
+
+    // 9.
+    fn check(&self) -> Result<(), Refusal>
+        ensures { result ≡ nine (is_smoothing self.now.c) }
+    {
+        answer::checked(answer::is_smoothing(self.c))
+    }
+
+    #[tactic(auto, unfolding(crate::specs::Blocker::step))]
+    pub fn step(&mut self, x: f32) -> Result<f32, Refusal>
+        ensures { told_read self.new result ≡ blocker.step self.old x }
+    {
+        self.check()?;
+        *self = blocked(*self, x);
+        Ok(self.y1)
+    }
+
+    #[tactic(auto, unfolding(crate::specs::Blocker::reset))]
+    pub fn reset(&mut self) -> Result<(), Refusal>
+        ensures { told self.new result ≡ blocker.reset self.old }
+    {
+        self.check()?;
+        self.x1 = 0.0;
+        self.y1 = 0.0;
+        Ok(())
     }
 }

@@ -1,10 +1,11 @@
 // The follower of a signal's level.
 ghost use Rattle.std.specs.Prelude.{◌≡◌};
-ghost use Rattle.answer.specs.Told.{told, told_read};
+ghost use Rattle.answer.specs.Checks.{nine};
+ghost use Rattle.answer.specs.Told.{told, told_made, told_read};
 ghost use Rattle.common.specs.Follower as follower;
 
 use crate::toward;
-use answer::{Answer, Reading, Refusal};
+use answer::Refusal;
 
 #[repr(C)]
 #[derive(Clone, Copy)]
@@ -12,18 +13,6 @@ pub struct Follower {
     pub attack: f32,
     pub release: f32,
     pub level: f32,
-}
-
-#[derive(Clone, Copy)]
-pub struct Answered {
-    pub follower: Follower,
-    pub answer: Answer,
-}
-
-#[derive(Clone, Copy)]
-pub struct Stepped {
-    pub follower: Follower,
-    pub output: Reading,
 }
 
 // The level after a sample x, for any bits.
@@ -39,69 +28,62 @@ pub fn followed(attack: f32, release: f32, level: f32, x: f32) -> f32
 }
 
 // Both c are worked numbers from 0 up to but excluding 1.
+#[tactic(auto, unfolding(crate::specs::Follower::acceptable))]
 fn acceptable(attack: f32, release: f32) -> bool
     ensures { result ≡ follower.acceptable attack release }
 {
-    answer::both(answer::is_smoothing(attack), answer::is_smoothing(release))
+    answer::is_smoothing(attack) && answer::is_smoothing(release)
 }
 
-pub fn make(attack: f32, release: f32) -> Answered
-    ensures { told result.follower result.answer ≡ follower.make attack release }
-{
-    if acceptable(attack, release) {
-        Answered {
-            follower: Follower {
-                attack: attack,
-                release: release,
-                level: 0.0,
-            },
-            answer: Answer::Done,
-        }
-    } else {
-        Answered {
-            follower: Follower {
-                attack: 1.0,
-                release: 1.0,
-                level: 0.0,
-            },
-            answer: Answer::Refused(Refusal::BadWorkedNumber),
-        }
+const UNMADE: Follower = Follower {
+    attack: 1.0,
+    release: 1.0,
+    level: 0.0,
+};
+
+impl Follower {
+    // What a refused making gives.
+    pub fn unmade() -> Follower
+        ensures { result ≡ follower.unmade }
+    {
+        UNMADE
     }
-}
 
-pub fn step(f: Follower, x: f32) -> Stepped
-    ensures { told_read result.follower result.output ≡ follower.step f x }
-{
-    if acceptable(f.attack, f.release) {
-        let level = followed(f.attack, f.release, f.level, x);
-        let mut next = f;
-        next.level = level;
-        Stepped {
-            follower: next,
-            output: Reading::Done(level),
+    pub fn make(attack: f32, release: f32) -> Result<Follower, Refusal>
+        ensures { told_made follower.unmade result ≡ follower.make attack release }
+    {
+        if !acceptable(attack, release) {
+            return Err(Refusal::BadWorkedNumber);
         }
-    } else {
-        Stepped {
-            follower: f,
-            output: Reading::Refused(Refusal::BadState),
-        }
+        Ok(Follower {
+            attack,
+            release,
+            level: 0.0,
+        })
     }
-}
 
-pub fn reset(f: Follower) -> Answered
-    ensures { told result.follower result.answer ≡ follower.reset f }
-{
-    if acceptable(f.attack, f.release) {
-        let mut rested = f;
-        rested.level = 0.0;
-        Answered {
-            follower: rested,
-            answer: Answer::Done,
-        }
-    } else {
-        Answered {
-            follower: f,
-            answer: Answer::Refused(Refusal::BadState),
-        }
+    // 9.
+    fn check(&self) -> Result<(), Refusal>
+        ensures { result ≡ nine (follower.acceptable self.now.attack self.now.release) }
+    {
+        answer::checked(acceptable(self.attack, self.release))
+    }
+
+    #[tactic(auto, unfolding(crate::specs::Follower::step))]
+    pub fn step(&mut self, x: f32) -> Result<f32, Refusal>
+        ensures { told_read self.new result ≡ follower.step self.old x }
+    {
+        self.check()?;
+        self.level = followed(self.attack, self.release, self.level, x);
+        Ok(self.level)
+    }
+
+    #[tactic(auto, unfolding(crate::specs::Follower::reset))]
+    pub fn reset(&mut self) -> Result<(), Refusal>
+        ensures { told self.new result ≡ follower.reset self.old }
+    {
+        self.check()?;
+        self.level = 0.0;
+        Ok(())
     }
 }

@@ -4,7 +4,7 @@ ghost use Rattle.std.specs.Prelude.{◌≡◌};
 ghost use Rattle.common.specs.Frequencies as frequencies;
 
 // In the order of their numbers, from 0.
-#[derive(Clone, Copy)]
+#[derive(Clone, Copy, Debug, PartialEq, Eq)]
 pub enum Model {
     Modern,
     British,
@@ -17,12 +17,6 @@ pub struct Corners {
     pub bass: f32,
     pub treble: f32,
     pub presence: f32,
-}
-
-#[derive(Clone, Copy)]
-pub enum Centre {
-    Hertz(f64),
-    Nothing,
 }
 
 const CENTRES: [f64; 16] = [
@@ -54,13 +48,13 @@ const FLAT: Corners = Corners {
     presence: 5000.0,
 };
 
-pub fn band_centre(band: usize) -> Centre
+pub fn band_centre(band: usize) -> Option<f64>
     ensures { result ≡ frequencies.band_centre band }
 {
-    if band < 16 {
-        Centre::Hertz(CENTRES[band])
+    if band < CENTRES.len() {
+        Some(CENTRES[band])
     } else {
-        Centre::Nothing
+        None
     }
 }
 

@@ -5,7 +5,6 @@
 // exponents are near, and `double_general` takes the rest, the smaller term cut to an odd number.
 #![tactic(auto)]
 
-mod long;
 mod quick;
 
 ghost use Rattle.std.specs.Prelude.{◌≡◌};
@@ -37,8 +36,8 @@ const LOWEST: u64 = 60;
 fn nonzero(a: f64, b: f64, c: f64) -> f64
     ensures { result ≡ Spec.fma binary64 a b c }
 {
-    if a != a || b != b || c != c {
-        return 0.0 / 0.0;
+    if a.is_nan() || b.is_nan() || c.is_nan() {
+        return f64::NAN;
     }
     let i = f64::to_bits(a);
     let j = f64::to_bits(b);
@@ -46,18 +45,18 @@ fn nonzero(a: f64, b: f64, c: f64) -> f64
     let x = i % SIGN >> FRACTION;
     let y = j % SIGN >> FRACTION;
     let z = k % SIGN >> FRACTION;
-    if THIRD_ABOVE < std::num::wrapping_sub_u64(z, THIRD_LEAST) {
+    if THIRD_ABOVE < z.wrapping_sub(THIRD_LEAST) {
         return double_general::whole(a, b, c);
     }
-    if NORMALS < std::num::wrapping_sub_u64(y, 1) {
+    if NORMALS < y.wrapping_sub(1) {
         return double_general::whole(a, b, c);
     }
-    if NORMALS < std::num::wrapping_sub_u64(x, 1) {
+    if NORMALS < x.wrapping_sub(1) {
         return double_general::whole(a, b, c);
     }
-    let d = std::num::wrapping_sub_u64(x + y, z + THIRD_DOWN);
+    let d = (x + y).wrapping_sub(z + THIRD_DOWN);
     if d <= LOWEST {
-        return quick::close(a, b, c, i, j, k, d);
+        return quick::close(a, b, c, i, j, k, x + y, d);
     }
     double_general::whole(a, b, c)
 }

@@ -1,5 +1,4 @@
--- A block's samples through buffers; a band of sixteen.
-pub mod Each
+-- A block's samples through a buffer, and in parts; a band of sixteen.
 pub mod Ran
 pub mod OneBand
 pub mod Parts

@@ -1,34 +1,14 @@
 -- A block in parts: what holds after i samples is kept by a turn that runs the next n of them together, by the laws of a block cut anywhere.
 -- Assumes nothing.
-use Prim.Native.Nat.{ℕ, ◌+◌, ◌-◌, ◌≤◌, ◌<◌}
+use Prim.Native.Nat.{ℕ, ◌+◌, ◌-◌, ◌≤◌}
 use native.Mathlib.Omega.{arith}
-use mathlib.Core.Path.{◌≡◌, refl, sym, ◌∙◌, ap}
-use mathlib.Core.Bool.{Bool, true, false, cond}
+use mathlib.Core.Path.{◌≡◌, sym, ◌∙◌, ap}
 use mathlib.Core.List.{List, ◌++◌, append_assoc}
-use lib.Dec.{ltb}
 use lib.ListN.{length, take, drop, length-take, length-drop, length-append, take-append-drop}
 use lib.Seq.{drop-drop, take_at}
-use borrow.Author.Tests.{ltb-true, ltb-false}
 use Rattle.fold.specs.Fold.{state_after, out_after}
 use Rattle.fold.proofs.Block.{Upto}
 use Rattle.fold.proofs.Parts.{state-parts, out-parts, out-length}
-
--- ---- how long the next part is, and where it ends
-pub record Next (i all n : ℕ) : Type 0 where
-  pub ends : i + n ≤ all
-  pub few : n ≤ 64
-  pub some : 0 < n
-
-pub next : {i all n : ℕ} → i < all → n ≡ cond (ltb (all - i) 64) (all - i) 64 → Next i all n
-next {i} {all} {n} h e = go (ltb (all - i) 64) refl e
-  where
-    go : (b : Bool) → ltb (all - i) 64 ≡ b → n ≡ cond b (all - i) 64 → Next i all n
-    go true l e = let below = ltb-true (all - i) 64 l in record { ends = omega (arith, e, h); few = omega (arith, e, below); some = omega (arith, e, h) }
-    go false l e = let above = ltb-false (all - i) 64 l in record { ends = omega (arith, e, h, above); few = omega (arith, e); some = omega (arith, e) }
-
--- the part of a slice from i to i + n
-pub part_length : {X : Type 0} (l : List X) (i n : ℕ) → i + n ≤ length l → length (take (i + n - i) (drop i l)) ≡ n
-part_length l i n h = rw length-take (omega (arith, length-drop i l))
 
 -- ---- a turn
 module _ {S X Y : Type 0} (step : S → X → S) (out : S → X → Y) {s₀ : S} {input : List X} {output₀ : List Y} {s : S} {output : List Y} {i : ℕ} (u : Upto step out s₀ input output₀ s output i) (same : length input ≡ length output₀) where

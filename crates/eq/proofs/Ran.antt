@@ -1,21 +1,18 @@
 -- A block widened, run through the bands over a buffer, and narrowed is its samples one after the other.
 -- Assumes nothing.
-use Prim.Native.Nat.{ℕ, ◌≤◌}
-use native.Mathlib.Omega.{arith}
-use mathlib.Core.Path.{◌≡◌, ◌∙◌, ap}
-use mathlib.Core.List.{List, map}
-use lib.ListN.{length, take, length-take}
-use lib.Ieee.{Float}
+use Rattle.std.proofs.Common.{◌≡◌, refl, ◌∙◌, ap, List, [], ◌∷◌, map, Float}
+use Rattle.fold.specs.Fold.{out_after}
 use Rattle.rounding.specs.Casts.{narrow}
 use Rattle.eq_bands.specs.declared.Settings.{Settings}
 use Rattle.eq_bands.specs.Row as Row
 use Rattle.eq_bands.specs.declared.Registers.{Registers}
 use Rattle.eq.specs.Calls.{after, outputs}
-use Rattle.eq.proofs.Each.{seen-through}
 
--- the part of a buffer that a block fills
-pub part-long : {X : Type 0} (n : ℕ) (l : List X) → n ≤ length l → n ≡ length (take n l)
-part-long n l h = rw length-take (omega arith)
+-- each sample that a stage gives may be seen through a function
+seen-through : {S X Y Z : Type 0} (f : Y → Z) (next : S → X → S) (out : S → X → Y) (s : S) (xs : List X) → map f (out_after next out s xs) ≡ out_after next (λ s x. f (out s x)) s xs
+unfolding out_after
+seen-through f next out s [] = refl
+seen-through {Z = Z} f next out s (x ∷ xs) = ap (λ (l : List Z). f (out s x) ∷ l) (seen-through f next out (next s x) xs)
 
 module _ (s : Settings) (m : Registers) (xs : List Float) where
   pub ran : {wide given : List Float} {r : Registers} {out : List Float}

@@ -1,6 +1,6 @@
 -- The equaliser's calls: make, set, read, reset, block, with document 01's refusals in its order. Definitions only.
 -- Assumes nothing.
-use Rattle.std.specs.Prelude.{ℕ, List, ltb, Float}
+use Rattle.std.specs.Prelude.{ℕ, List, ltb, Float, Option, Some, None}
 use Rattle.answer.specs.Checks.{is_rate}
 use Rattle.answer.specs.Told.{Told, refused, done, done_with, unless}
 use Rattle.answer.specs.Blocks.{checked_block}
@@ -11,10 +11,7 @@ use Rattle.eq_bands.specs.Bands.{in_its_range, worked}
 use Rattle.eq_bands.specs.Names.{index_of, named}
 use Rattle.eq_bands.specs.declared.Numbers.{Numbers}
 use Rattle.eq_bands.specs.declared.Settings.{Settings}
-use Rattle.eq_bands.specs.declared.Index.{Index}
-use Rattle.eq_bands.specs.declared.Index.TheVariants as index
 use Rattle.eq_bands.specs.declared.Setting.{Setting}
-use Rattle.eq_bands.specs.declared.Setting.TheVariants as setting
 use Rattle.eq_bands.specs.Row as Row
 use Rattle.eq_bands.specs.declared.Registers.{Registers}
 use Rattle.eq.specs.declared.Equaliser.{Equaliser}
@@ -33,17 +30,17 @@ set_band e i value numbers =
     (unless (worked numbers) (refused e BadWorkedNumber)
     (done (with_band e i value numbers)))))
 
-unfoldable pub set_found : Equaliser → Setting → Told Equaliser
-set_found e (setting.Band i value numbers) = set_band e i value numbers
-set_found e setting.Unknown = refused e NoSetting
+unfoldable pub set_found : Equaliser → Option Setting → Told Equaliser
+set_found e (Some t) = set_band e t.band t.value t.numbers
+set_found e None = refused e NoSetting
 
 unfoldable pub set : Equaliser → List ℕ → Decibels → Numbers → Told Equaliser
 set e name value numbers = unless (acceptable e) (refused e BadState) (set_found e (named name value numbers))
 
 -- ---- read: 9, 1, 2
-unfoldable pub read_found : Equaliser → Index → Told Equaliser
-read_found e (index.At i) = unless (ltb i 16) (refused e NoBand) (done_with e 0 (value_at e i))
-read_found e index.Unknown = refused e NoSetting
+unfoldable pub read_found : Equaliser → Option ℕ → Told Equaliser
+read_found e (Some i) = unless (ltb i 16) (refused e NoBand) (done_with e 0 (value_at e i))
+read_found e None = refused e NoSetting
 
 unfoldable pub read : Equaliser → List ℕ → Told Equaliser
 read e name = unless (acceptable e) (refused e BadState) (read_found e (index_of name))

@@ -1,12 +1,11 @@
-// The equaliser: its state, and its calls.
+// The equaliser: its state, its making, and what it is as a stage.
 #![tactic(auto)]
 
-mod calls;
+mod as_stage;
+mod making;
 mod samples;
-mod states;
 
-use answer::Answer;
-pub use calls::{block, make, read, reset, set, set_band};
+pub use eq_bands::Setting;
 use eq_bands::{Registers, Settings};
 
 // What a host sets, and what a sample moves.
@@ -15,10 +14,4 @@ use eq_bands::{Registers, Settings};
 pub struct Equaliser {
     pub settings: Settings,
     pub registers: Registers,
-}
-
-#[derive(Clone, Copy)]
-pub struct Answered {
-    pub equaliser: Equaliser,
-    pub answer: Answer,
 }

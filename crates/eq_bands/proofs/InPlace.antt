@@ -3,16 +3,13 @@
 use Prim.Native.Nat.{ℕ, suc, ◌+◌, ◌<◌}
 use native.Mathlib.Nat.{le_refl}
 use native.Mathlib.Numerals.{add-one}
-use mathlib.Core.Path.{◌≡◌, refl, sym, ◌∙◌}
+use mathlib.Core.Path.{◌≡◌, sym, ◌∙◌}
 use mathlib.Core.List.{List, ◌∷◌}
 use lib.ListN.{length, drop, get_or, set}
 use lib.Seq.{drop-cons, drop-set-lt}
 
 pub record Ahead {X : Type 0} (came buffer : List X) (i : ℕ) : Type 0 where
   pub same : drop i buffer ≡ drop i came
-
-pub start : {X : Type 0} (buffer : List X) → Ahead buffer buffer 0
-start buffer = record { same = refl }
 
 module _ {X : Type 0} {came buffer : List X} {i : ℕ} (a : Ahead came buffer i) (d : X) (hb : i < length buffer) (hc : i < length came) where
   parts : (get_or buffer i d ∷ drop (suc i) buffer) ≡ (get_or came i d ∷ drop (suc i) came)

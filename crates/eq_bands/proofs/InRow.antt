@@ -67,9 +67,6 @@ pub record Upto (bs : List Band) (ds₀ : List Delay) (xs₀ : List Float) (ds :
   pub delays : take k ds ++ delays_after (drop k bs) (drop k ds) xs ≡ delays_after bs ds₀ xs₀
   pub given : given_after (drop k bs) (drop k ds) xs ≡ given_after bs ds₀ xs₀
 
-pub start : (bs : List Band) (ds : List Delay) (xs : List Float) → length ds ≡ 16 → Upto bs ds xs ds xs 0
-start bs ds xs long = record { inside = omega arith; long = long; kept = refl; delays = refl; given = refl }
-
 module _ {bs : List Band} {ds₀ : List Delay} {xs₀ : List Float} {ds : List Delay} {xs : List Float} {k : ℕ} (u : Upto bs ds₀ xs₀ ds xs k) (sixteen : length bs ≡ 16) where
   pub onward : (b : Band) (d e : Delay) (ys : List Float) → k < 16
       → (e, ys) ≡ Biquad.over (get_or bs k b).numbers (get_or ds k d) xs

@@ -7,7 +7,6 @@ use Rattle.rounding.specs.Fma.{fma}
 use Rattle.fold.specs.Fold.{state_after, out_after}
 use Rattle.eq_bands.specs.declared.Numbers.{Numbers}
 use Rattle.eq_bands.specs.declared.Delay.{Delay}
-use Rattle.eq_bands.specs.declared.Stepped.{Stepped}
 
 -- y = fma(b0, x, fma(b1, x1, b2*x2)) - fma(a1, y1, a2*y2)
 unfoldable pub output : Numbers → Delay → Float → Float
@@ -18,9 +17,6 @@ output n d x =
 
 unfoldable pub next : Numbers → Delay → Float → Delay
 next n d x = record { x1 = x; x2 = d.x1; y1 = output n d x; y2 = d.y1 }
-
-unfoldable pub step : Numbers → Delay → Float → Stepped
-step n d x = record { delay = next n d x; output = output n d x }
 
 -- one sample after the other: what they leave, and what they give
 abbrev pub over : Numbers → Delay → List Float → Delay × List Float

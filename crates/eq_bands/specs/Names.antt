@@ -1,13 +1,10 @@
 -- The names of the bands, as bytes: `band_` and then what Rust reads as a usize. Definitions only.
 -- Assumes nothing.
-use Rattle.std.specs.Prelude.{ℕ, ◌+◌, ◌-◌, ◌*◌, ◌^◌, Bool, true, ◌&&◌, cond, List, [], ◌∷◌, eqb, ltb, leb, length, take, drop}
+use Rattle.std.specs.Prelude.{ℕ, ◌+◌, ◌-◌, ◌*◌, ◌^◌, Bool, true, ◌&&◌, cond, List, [], ◌∷◌, eqb, ltb, leb, length, take, drop, Option, Some, None}
 use Rattle.answer.specs.Names.{bytes, same}
 use Rattle.answer.specs.declared.Decibels.{Decibels}
 use Rattle.eq_bands.specs.declared.Numbers.{Numbers}
-use Rattle.eq_bands.specs.declared.Index.{Index}
-use Rattle.eq_bands.specs.declared.Index.TheVariants as index
 use Rattle.eq_bands.specs.declared.Setting.{Setting}
-use Rattle.eq_bands.specs.declared.Setting.TheVariants as setting
 
 -- '0' to '9'
 abbrev pub is_digit : ℕ → Bool
@@ -23,21 +20,21 @@ behind n [] = n
 behind n (d ∷ ds) = behind (n * 10 + (d - 48)) ds
 
 -- one or more digits, leading zeros allowed, at most 2 ^ 64 - 1
-unfoldable pub number_of : List ℕ → Index
-number_of ds = cond (ltb 0 (length ds) && (all_digits ds && leb (behind 0 ds) (2 ^ 64 - 1))) (index.At (behind 0 ds)) index.Unknown
+unfoldable pub number_of : List ℕ → Option ℕ
+number_of ds = cond (ltb 0 (length ds) && (all_digits ds && leb (behind 0 ds) (2 ^ 64 - 1))) (Some (behind 0 ds)) None
 
 -- an optional '+'
 unfoldable pub after_plus : List ℕ → List ℕ
 after_plus [] = []
 after_plus (b ∷ bs) = cond (eqb b 43) bs (b ∷ bs)
 
-unfoldable pub index_of : List ℕ → Index
-index_of name = cond (same (take 5 name) (bytes "band_")) (number_of (after_plus (drop 5 name))) index.Unknown
+unfoldable pub index_of : List ℕ → Option ℕ
+index_of name = cond (same (take 5 name) (bytes "band_")) (number_of (after_plus (drop 5 name))) None
 
 -- the setting of that name, with the value and the worked numbers beside it
-unfoldable pub setting_at : Index → Decibels → Numbers → Setting
-setting_at (index.At i) value numbers = setting.Band i value numbers
-setting_at index.Unknown value numbers = setting.Unknown
+unfoldable pub setting_at : Option ℕ → Decibels → Numbers → Option Setting
+setting_at (Some i) value numbers = Some (record { band = i; value = value; numbers = numbers })
+setting_at None value numbers = None
 
-unfoldable pub named : List ℕ → Decibels → Numbers → Setting
+unfoldable pub named : List ℕ → Decibels → Numbers → Option Setting
 named name value numbers = setting_at (index_of name) value numbers

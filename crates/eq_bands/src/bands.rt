@@ -1,9 +1,10 @@
 // What a band may hold, and what a setting leaves.
 ghost use Rattle.std.specs.Prelude.{◌≡◌};
+ghost use Rattle.answer.specs.Checks.{vetted};
 ghost use Rattle.eq_bands.specs.Bands as Bands;
 
-use crate::{Band, Numbers, Settings};
-use answer::Decibels;
+use crate::{Band, Numbers, Setting, Settings};
+use answer::{Decibels, Refusal};
 
 const LARGEST_GAIN: f32 = 12.0;
 
@@ -24,14 +25,6 @@ pub fn in_its_range(value: Decibels) -> bool
     answer::in_range(-LARGEST_GAIN, LARGEST_GAIN, value.0)
 }
 
-// Whether the five are finite.
-pub fn worked(n: Numbers) -> bool
-    ensures { result ≡ Bands.worked n }
-{
-    let back = answer::finite64(n.a1) & answer::finite64(n.a2);
-    answer::finite64(n.b0) & (answer::finite64(n.b1) & (answer::finite64(n.b2) & back))
-}
-
 // Whether the size of the value as f64 is below 1e-6.
 fn is_unity(value: Decibels) -> bool
     ensures { result ≡ Bands.is_unity value }
@@ -39,73 +32,101 @@ fn is_unity(value: Decibels) -> bool
     float::size64(float::widened(value.0)) < SMALLEST_GAIN
 }
 
-fn settled(n: Numbers) -> Numbers
-    ensures { result ≡ n }
-{
-    Numbers {
-        b0: float::settled64(n.b0),
-        b1: float::settled64(n.b1),
-        b2: float::settled64(n.b2),
-        a1: float::settled64(n.a1),
-        a2: float::settled64(n.a2),
+impl Numbers {
+    // Whether the five are finite.
+    #[tactic(auto, unfolding(crate::specs::Bands::worked))]
+    pub fn worked(self) -> bool
+        ensures { result ≡ Bands.worked self }
+    {
+        answer::finite64(self.b0)
+            && answer::finite64(self.b1)
+            && answer::finite64(self.b2)
+            && answer::finite64(self.a1)
+            && answer::finite64(self.a2)
+    }
+
+    // Whether they are those of a passthrough, to the bit.
+    #[tactic(auto, unfolding(crate::specs::Bands::is_passthrough))]
+    fn is_passthrough(self) -> bool
+        ensures { result ≡ Bands.is_passthrough self }
+    {
+        float::bits64(self.b0) == 0x3ff0_0000_0000_0000
+            && float::bits64(self.b1) == 0
+            && float::bits64(self.b2) == 0
+            && float::bits64(self.a1) == 0
+            && float::bits64(self.a2) == 0
+    }
+
+    // Every NaN in them the quiet one.
+    fn settled(self) -> Numbers
+        ensures { result ≡ self }
+    {
+        Numbers {
+            b0: float::settled64(self.b0),
+            b1: float::settled64(self.b1),
+            b2: float::settled64(self.b2),
+            a1: float::settled64(self.a1),
+            a2: float::settled64(self.a2),
+        }
     }
 }
 
-// The band that a setting leaves. Every NaN in it is the quiet one.
-pub fn taken(value: Decibels, numbers: Numbers) -> Band
-    ensures { result ≡ Bands.taken value numbers }
-{
-    let kept = Decibels(float::settled32(value.0));
-    if is_unity(value) {
-        return Band {
-            value: kept,
-            numbers: PASSTHROUGH,
+impl Setting {
+    // 3, 4.
+    pub fn vetted(self) -> Result<(), Refusal>
+        ensures { result ≡ vetted (Bands.in_its_range self.value) (Bands.worked self.numbers) }
+    {
+        answer::vetted(in_its_range(self.value), self.numbers.worked())
+    }
+
+    // The band that it leaves. Every NaN in it is the quiet one.
+    #[tactic(auto, unfolding(crate::specs::Bands::taken))]
+    pub fn taken(self) -> Band
+        ensures { result ≡ Bands.taken self.value self.numbers }
+    {
+        let numbers = if is_unity(self.value) {
+            PASSTHROUGH
+        } else {
+            self.numbers.settled()
         };
+        Band {
+            value: Decibels(float::settled32(self.value.0)),
+            numbers,
+        }
     }
-    Band {
-        value: kept,
-        numbers: settled(numbers),
+
+    // Whether it zeroes the registers of a band that held these numbers.
+    #[tactic(auto, unfolding(crate::specs::Bands::clears))]
+    pub fn clears(self, old: Numbers) -> bool
+        ensures { result ≡ Bands.clears old self.value }
+    {
+        is_unity(self.value) || (old.b1 == 0.0 && old.a1 == 0.0)
     }
 }
 
-// Whether a setting of the value zeroes the registers of a band that held these numbers.
-pub fn clears(old: Numbers, value: Decibels) -> bool
-    ensures { result ≡ Bands.clears old value }
-{
-    is_unity(value) | ((old.b1 == 0.0) & (old.a1 == 0.0))
-}
-
-// Whether the numbers are those of a passthrough, to the bit.
-fn is_passthrough(n: Numbers) -> bool
-    ensures { result ≡ Bands.is_passthrough n }
-{
-    let back = (float::bits64(n.a1) == 0) & (float::bits64(n.a2) == 0);
-    let behind = (float::bits64(n.b1) == 0) & ((float::bits64(n.b2) == 0) & back);
-    (float::bits64(n.b0) == 0x3ff0_0000_0000_0000) & behind
-}
-
-// Whether a setting or making could have left the band.
-fn band_settable(b: Band) -> bool
-    ensures { result ≡ Bands.band_settable b }
-{
-    let value = b.value;
-    let numbers = b.numbers;
-    let unity = is_unity(value);
-    let five = (unity & is_passthrough(numbers)) | (!unity & worked(numbers));
-    in_its_range(value) & five
-}
-
-// Whether the rate and the bands could have been set or made.
-pub fn settable(s: Settings) -> bool
-    ensures { result ≡ Bands.settable s }
-{
-    let bands = s.bands;
-    let mut all = answer::is_rate(s.rate);
-    let mut i: usize = 0;
-    while i < 16 {
-        let b = bands[i];
-        all = all & band_settable(b);
-        i += 1;
+impl Band {
+    // Whether a setting or making could have left it.
+    #[tactic(auto, unfolding(crate::specs::Bands::band_settable))]
+    fn settable(self) -> bool
+        ensures { result ≡ Bands.band_settable self }
+    {
+        if !in_its_range(self.value) {
+            return false;
+        }
+        if is_unity(self.value) {
+            self.numbers.is_passthrough()
+        } else {
+            self.numbers.worked()
+        }
     }
-    all
+}
+
+impl Settings {
+    // Whether the rate and the bands could have been set or made.
+    #[tactic(auto, unfolding(crate::specs::Bands::settable))]
+    pub fn settable(&self) -> bool
+        ensures { result ≡ Bands.settable self.now }
+    {
+        answer::is_rate(self.rate) && self.bands.iter().all(|b| b.settable())
+    }
 }

@@ -6,9 +6,10 @@ mod names;
 mod row;
 
 use answer::Decibels;
-pub use bands::{clears, in_its_range, settable, taken, worked};
-pub use names::{find, index_of};
-pub use row::through;
+pub use bands::in_its_range;
+pub use names::index_of;
+
+pub const BANDS: usize = 16;
 
 // A band's worked numbers.
 #[repr(C)]
@@ -33,7 +34,7 @@ pub struct Band {
 #[derive(Clone, Copy)]
 pub struct Settings {
     pub rate: f32,
-    pub bands: [Band; 16],
+    pub bands: [Band; BANDS],
 }
 
 // A band's registers.
@@ -50,26 +51,13 @@ pub struct Delay {
 #[repr(C)]
 #[derive(Clone, Copy)]
 pub struct Registers {
-    pub bands: [Delay; 16],
+    pub bands: [Delay; BANDS],
 }
 
-// What a sample leaves in a band, and gives.
+// A setting: its band, and the value and the worked numbers for it.
 #[derive(Clone, Copy)]
-pub struct Stepped {
-    pub delay: Delay,
-    pub output: f64,
-}
-
-// The band that a name says.
-#[derive(Clone, Copy)]
-pub enum Index {
-    At(usize),
-    Unknown,
-}
-
-// What a name and the numbers beside it ask for.
-#[derive(Clone, Copy)]
-pub enum Setting {
-    Band(usize, Decibels, Numbers),
-    Unknown,
+pub struct Setting {
+    pub band: usize,
+    pub value: Decibels,
+    pub numbers: Numbers,
 }

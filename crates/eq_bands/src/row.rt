@@ -4,56 +4,58 @@ ghost use Rattle.std.specs.Prelude.{◌≡◌};
 ghost use Rattle.eq_bands.specs.Biquad as Biquad;
 ghost use Rattle.eq_bands.specs.Row as Row;
 
-use crate::{Delay, Numbers, Registers, Settings, Stepped};
+use crate::{Delay, Numbers, Registers, Settings};
+use fold::Step;
 
-// What a sample x leaves in a band and gives. Every NaN in it is the quiet one.
-fn step(n: Numbers, d: Delay, x: f64) -> Stepped
-    ensures { result ≡ Biquad.step n d x }
-{
-    let forward = float::fma64(n.b0, x, float::fma64(n.b1, d.x1, n.b2 * d.x2));
-    let back = float::fma64(n.a1, d.y1, n.a2 * d.y2);
-    let y = float::settled64(forward - back);
-    Stepped {
-        delay: Delay {
+// Every NaN in what a sample leaves and gives is the quiet one.
+impl Step for Numbers {
+    type State = Delay;
+
+    type Sample = f64;
+
+    type Output = f64;
+
+    ghost next = { Biquad.next };
+
+    ghost given = { Biquad.output };
+
+    #[tactic(auto, unfolding(crate::specs::Biquad::next, crate::specs::Biquad::output))]
+    fn step(&self, d: Delay, x: f64) -> (Delay, f64) {
+        let forward = float::fma64(self.b0, x, float::fma64(self.b1, d.x1, self.b2 * d.x2));
+        let back = float::fma64(self.a1, d.y1, self.a2 * d.y2);
+        let y = float::settled64(forward - back);
+        let left = Delay {
             x1: float::settled64(x),
             x2: float::settled64(d.x1),
             y1: y,
             y2: float::settled64(d.y1),
-        },
-        output: y,
+        };
+        (left, y)
     }
 }
 
-// A band over a buffer of samples, each replaced by what the band gives.
-fn over(n: Numbers, d: Delay, samples: &mut [f64]) -> Delay
-    ensures { (result, samples.new) ≡ Biquad.over n d samples.old }
-{
-    let mut now = d;
-    let mut i: usize = 0;
-    while i < samples.len() {
-        let before = now;
-        let stepped = step(n, before, samples[i]);
-        let next = stepped.delay;
-        samples[i] = stepped.output;
-        now = next;
-        i += 1;
+impl Numbers {
+    // A band over a buffer of samples, each replaced by what the band gives.
+    fn over(self, d: Delay, samples: &mut [f64]) -> Delay
+        ensures { (result, samples.new) ≡ Biquad.over self d samples.old }
+    {
+        let mut now = d;
+        for x in samples.iter_mut() {
+            let (next, y) = self.step(now, *x);
+            *x = y;
+            now = next;
+        }
+        now
     }
-    now
 }
 
-// The sixteen bands, one after the other, over a buffer of samples.
-pub fn through(s: Settings, m: Registers, samples: &mut [f64]) -> Registers
-    ensures { (result, samples.new) ≡ Row.through s m samples.old }
-{
-    let bands = s.bands;
-    let mut delays = m.bands;
-    let mut k: usize = 0;
-    while k < 16 {
-        let b = bands[k];
-        let n = b.numbers;
-        let d = delays[k];
-        delays[k] = over(n, d, samples);
-        k += 1;
+impl Registers {
+    // The sixteen bands, one after the other, over a buffer of samples.
+    pub fn through(&mut self, s: &Settings, samples: &mut [f64])
+        ensures { (self.new, samples.new) ≡ Row.through s.now self.old samples.old }
+    {
+        for (k, b) in s.bands.iter().enumerate() {
+            self.bands[k] = b.numbers.over(self.bands[k], samples);
+        }
     }
-    Registers { bands: delays }
 }

@@ -1,13 +1,12 @@
 // Casts, and a number's size.
-ghost use Rattle.std.specs.Prelude.{◌≡◌, ◌-◌, ◌*◌, ◌/◌, ◌^◌, ◌<◌, true, from_bits};
-ghost use Rattle.std.specs.Float.{binary32};
-ghost use Rattle.std.specs.Float.Ieee.{lt, to_unsigned};
+ghost use Rattle.std.specs.Prelude.{◌≡◌, ◌-◌, ◌*◌, ◌/◌, ◌^◌, ◌<◌};
+ghost use Rattle.std.specs.Float.Ieee.{to_unsigned};
 ghost use Rattle.rounding.specs.Steps.{pattern, significand};
 ghost use Rattle.rounding.specs.Casts.{narrow, absolute};
 ghost use Rattle.float.specs.Truncating.{exactness};
-ghost use Rattle.float.specs.declared.Exactness.TheVariants.{Cut};
 
 use crate::{Exactness, Truncation};
+use bits::settled64;
 
 const SIGN: u64 = 0x8000_0000_0000_0000;
 
@@ -59,71 +58,46 @@ fn rounded(m: u64) -> u64
 pub fn narrowed(x: f64) -> f32
     ensures { result ≡ narrow x }
 {
-    if x != x {
-        return 0.0 / 0.0;
+    if x.is_nan() {
+        return f32::NAN;
     }
     let w = f64::to_bits(x);
-    let size = bits::least(rounded(w % SIGN), INFINITY32);
-    bits::from_bits32((w / SIGN * WIDE_SIGN32 + size) as u32)
+    let size = rounded(w % SIGN).min(INFINITY32);
+    f32::from_bits((w / SIGN * WIDE_SIGN32 + size) as u32)
 }
 
 // An `f64` holds every `f32`.
 pub fn widened(x: f32) -> f64
     ensures { result ≡ x }
 {
-    if x != x {
-        return 0.0 / 0.0;
-    }
-    x as f64
-}
-
-// Whether x, of which n was given back, is n.
-fn word_of(x: f32, n: u64) -> Exactness
-    requires { (n ≡ to_unsigned 64 x) × (lt x (from_bits binary32 0x5f80_0000) ≡ true) }
-    ensures { result ≡ exactness x }
-{
-    if TWO_TO_24 <= n {
-        return Exactness::Exact;
-    }
-    if n as f32 == x {
-        Exactness::Exact
-    } else {
-        Exactness::Cut
-    }
-}
-
-fn cut(n: u64) -> Truncation
-    ensures { (result.whole ≡ n) × (result.word ≡ Cut) }
-{
-    Truncation {
-        whole: n,
-        word: Exactness::Cut,
-    }
+    settled64(std::num::f32_to_f64_with_nan(x))
 }
 
 // Toward zero; NaN and negatives give 0; at most 2 ^ 64 - 1.
 pub fn truncated(x: f32) -> Truncation
     ensures { (result.whole ≡ to_unsigned 64 x) × (result.word ≡ exactness x) }
 {
-    if -1.0 < x {
-        if x < TWO_TO_64 {
-            let n = std::num::truncating_f32_to_u64(x);
-            return Truncation {
-                whole: n,
-                word: word_of(x, n),
-            };
-        }
-        return cut(0xffff_ffff_ffff_ffff);
+    if -1.0 < x && x < TWO_TO_64 {
+        let whole = std::num::truncating_f32_to_u64(x);
+        let word = if TWO_TO_24 <= whole || whole as f32 == x {
+            Exactness::Exact
+        } else {
+            Exactness::Cut
+        };
+        return Truncation { whole, word };
     }
-    cut(0)
+    Truncation {
+        whole: if -1.0 < x { u64::MAX } else { 0 },
+        word: Exactness::Cut,
+    }
 }
 
 // x without its sign.
 pub fn size32(x: f32) -> f32
     ensures { result ≡ absolute x }
 {
-    if x != x {
-        return 0.0 / 0.0;
+    if x.is_nan() {
+        return f32::NAN;
     }
     f32::from_bits(f32::to_bits(x) % SIGN32)
 }
@@ -131,8 +105,8 @@ pub fn size32(x: f32) -> f32
 pub fn size64(x: f64) -> f64
     ensures { result ≡ absolute x }
 {
-    if x != x {
-        return 0.0 / 0.0;
+    if x.is_nan() {
+        return f64::NAN;
     }
     f64::from_bits(f64::to_bits(x) % SIGN)
 }

@@ -18,25 +18,27 @@ pub use wide::wide32;
 
 // What truncation says of the number that it took: that it is the whole number given back, or that something was
 // thrown away.
-#[derive(Clone, Copy)]
+#[derive(Clone, Copy, PartialEq, Eq, Debug)]
 pub enum Exactness {
     Exact,
     Cut,
 }
 
-#[derive(Clone, Copy)]
+#[derive(Clone, Copy, PartialEq, Eq, Debug)]
 pub struct Truncation {
     pub whole: u64,
     pub word: Exactness,
 }
 
 // The word as a host has it.
-pub fn word_number(w: Exactness) -> u32
-    ensures { result ≡ truncating.number w }
-{
-    match w {
-        Exactness::Exact => 1,
-        Exactness::Cut => 2,
+impl From<Exactness> for u32 {
+    ghost from_gives = { λ w n. n ≡ truncating.number w };
+
+    fn from(word: Exactness) -> u32 {
+        match word {
+            Exactness::Exact => 1,
+            Exactness::Cut => 2,
+        }
     }
 }
 

@@ -21,11 +21,11 @@ pub fn wide32(a: f64, b: f64, c: f64) -> f64
     ensures { T (fits binary32 a) → T (fits binary32 b) → T (fits binary32 c) → result ≡ fma binary32 a b c }
 {
     let s = a * b + c;
-    if s != s {
-        return 0.0 / 0.0;
+    if s.is_nan() {
+        return f64::NAN;
     }
     let n = f64::to_bits(s);
-    if ABOVE < std::num::wrapping_sub_u64(n % SIGN >> FRACTION, LEAST) {
+    if ABOVE < (n % SIGN >> FRACTION).wrapping_sub(LEAST) {
         if s == 0.0 {
             return s;
         }

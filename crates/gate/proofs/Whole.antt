@@ -12,15 +12,10 @@ use Rattle.noise_gate_settings.specs.declared.Settings.{Settings}
 use Rattle.pcm_gate.specs.Bytes.{words_of, bytes_of}
 use Rattle.pcm_gate.specs.Pass.{next, output, outputs, pass}
 use Rattle.pcm_gate.specs.Turns.{given}
+use Rattle.pcm_gate.proofs.Pairs.{words-long}
 use Rattle.gate.specs.Carried.{whole_samples}
 use Rattle.gate.specs.Runs.{run_of}
 use Rattle.gate.specs.declared.Turn.{Turn}
-
-words-length : (xs : List ℕ) → length (words_of xs) ≡ length xs / 2
-unfolding words_of
-words-length [] = refl
-words-length (a ∷ []) = refl
-words-length (a ∷ b ∷ xs) = omega (arith, words-length xs)
 
 bytes-length : (us : List ℕ) → length (bytes_of us) ≡ length us * 2
 unfolding bytes_of
@@ -28,7 +23,7 @@ bytes-length [] = refl
 bytes-length (u ∷ us) = omega (arith, bytes-length us)
 
 outputs-length : (s : Settings) (m : Registers) (xs : List ℕ) → length (outputs s m xs) ≡ length xs / 2 * 2
-outputs-length s m xs = bytes-length _ ∙ rw (out-length (next s) (output s) m (words_of xs), words-length xs)
+outputs-length s m xs = bytes-length _ ∙ rw (out-length (next s) (output s) m (words_of xs), words-long xs)
 
 -- the first bytes of a buffer are those that are written at its start, whatever stands behind them
 start_same : (n : ℕ) (written p q : List ℕ) → length written ≡ n → take n (over written p) ≡ take n (over written q)

@@ -8,84 +8,67 @@
 
 mod told;
 
-ghost use Rattle.std.specs.Prelude.{◌≡◌, ◌≤◌, ◌⊎◌, length, take};
+ghost use Rattle.std.specs.Prelude.{IfOk, OnOk, ◌≡◌, ◌<◌, ◌≤◌, length, take};
 ghost use Rattle.std.specs.Io.KnownBytes.{Consumes, Appends, IsAtEnd};
 ghost use Rattle.pcm_gate.specs.Pass as Pass;
 ghost use Rattle.pcm_gate.specs.Turns.{block_bytes};
 ghost use Rattle.gate.specs.Carried.{Carried, CarriedAll, whole_samples};
 ghost use Rattle.gate.specs.Runs as Runs;
-ghost use Rattle.gate.specs.declared.Next.TheVariants as next;
+ghost use Rattle.gate.specs.declared.Stopped.TheVariants as stopped;
 
-use noise_gate::{Gate, Passage};
+use noise_gate::Gate;
 use std::io::{Read, Write};
 use std::process::ExitCode;
 
-// The gate after a block, the samples so far and how many of them were aimed open at, and what comes
-// next.
+// The gate after a block, the samples so far and how many of them were aimed open at.
 #[derive(Clone, Copy)]
 struct Turn {
     gate: Gate,
     samples: u64,
     aimed: u64,
-    next: Next,
 }
 
+// A read or a write failed, or a block was refused; it was said.
 #[derive(Clone, Copy)]
-enum Next {
-    More,
-    End,
+struct Failed;
+
+// What stops a run before the end of its input.
+#[derive(Clone, Copy)]
+enum Stopped {
     Failed,
+    // No turn is left after this one.
+    Unended(Turn),
 }
 
-// How many bytes a buffer was filled with, and what comes next.
-#[derive(Clone, Copy)]
-struct Filled {
-    count: usize,
-    next: Next,
+impl From<Failed> for Stopped {
+    ghost from_gives = { λ _ s. s ≡ stopped.Failed };
+
+    fn from(_: Failed) -> Stopped {
+        Stopped::Failed
+    }
 }
+
+// How many bytes a block has; the last one has fewer.
+const BLOCK: usize = 4096;
 
 // Reads until the buffer is full, the input ends or a read fails. The buffer's first bytes are those that
-// were read, and nothing is left where the input has ended.
-fn fill<R: Read>(rt: &HostRuntime, from: &mut R, buffer: &mut [u8]) -> Filled
-    ensures counted { (result.count ≤ length buffer.new) × (result.next ≡ next.More → result.count ≡ length buffer.new) }
-    ensures taken { Consumes (R.remaining from.old) (R.remaining from.new) (take result.count buffer.new) }
-    ensures ended { result.next ≡ next.End → IsAtEnd (R.remaining from.new) }
+// were read, so many, and nothing is left where they are fewer than it holds and no read failed.
+fn fill<R: Read>(rt: &HostRuntime, from: &mut R, buffer: &mut [u8]) -> (usize, Result<(), Failed>)
+    ensures counted { result.0 ≤ length buffer.new }
+    ensures taken { Consumes (R.remaining from.old) (R.remaining from.new) (take result.0 buffer.new) }
+    ensures ended { OnOk result.1 (result.0 < length buffer.new → IsAtEnd (R.remaining from.new)) }
 {
     let mut at: usize = 0;
     while at < buffer.len() {
         let Ok(n) = from.read(&mut buffer[at..]) else {
-            told::failed(rt, b"gate: a read failed\n");
-            return Filled {
-                count: at,
-                next: Next::Failed,
-            };
+            return (at, Err(told::failed(rt, b"gate: a read failed\n")));
         };
         if n == 0 {
-            return Filled {
-                count: at,
-                next: Next::End,
-            };
+            return (at, Ok(()));
         }
         at += n;
     }
-    Filled {
-        count: at,
-        next: Next::More,
-    }
-}
-
-// Says what failed; there is no next block.
-fn failed(rt: &HostRuntime, turn: Turn, what: &[u8]) -> Turn
-    ensures { result ≡ Runs.stopped turn }
-{
-    told::failed(rt, what);
-    let gate = turn.gate;
-    Turn {
-        gate: gate,
-        samples: turn.samples,
-        aimed: turn.aimed,
-        next: Next::Failed,
-    }
+    (at, Ok(()))
 }
 
 // A block through the gate, and what it gives written.
@@ -95,34 +78,29 @@ fn passed<W: Write>(
     turn: Turn,
     input: &[u8],
     output: &mut [u8],
-    next: Next,
-) -> Turn
+) -> Result<Turn, Failed>
     ensures gated { (output.new ≡ (Pass.pass turn.gate input.now output.old).1)
-        × ((result ≡ Runs.stopped turn) ⊎ Runs.Done turn input.now output.old next result) }
-    ensures added { (result ≡ Runs.stopped turn)
-        ⊎ Appends (W.contents to.old) (W.contents to.new) (whole_samples output.new) }
+        × IfOk result (Runs.Done turn input.now output.old) }
+    ensures added { OnOk result (Appends (W.contents to.old) (W.contents to.new) (whole_samples output.new)) }
 {
-    let g = turn.gate;
-    let ran = pcm_gate::pass(g, input, output);
-    let gate = ran.gate;
-    let answer = ran.answer;
-    let Passage::Done(p) = answer else {
-        return failed(rt, turn, b"gate: a block was refused\n");
+    let mut gate = turn.gate;
+    let Ok(p) = pcm_gate::pass(&mut gate, input, output) else {
+        return Err(told::failed(rt, b"gate: a block was refused\n"));
     };
     let whole = output.len() / 2;
     let even = whole * 2;
     if to.write_all(&output[..even]).is_err() {
-        return failed(rt, turn, b"gate: a write failed\n");
+        return Err(told::failed(rt, b"gate: a write failed\n"));
     }
-    Turn {
-        gate: gate,
-        samples: std::num::wrapping_add_u64(turn.samples, whole as u64),
-        aimed: std::num::wrapping_add_u64(turn.aimed, p.count as u64),
-        next: next,
-    }
+    Ok(Turn {
+        gate,
+        samples: turn.samples.wrapping_add(whole as u64),
+        aimed: turn.aimed.wrapping_add(p.count as u64),
+    })
 }
 
-// A block read into the first buffer, and passed by way of the second.
+// A block read into the first buffer, and passed by way of the second: the turn, and how many bytes were
+// read.
 fn block<R: Read, W: Write>(
     rt: &HostRuntime,
     from: &mut R,
@@ -130,62 +108,54 @@ fn block<R: Read, W: Write>(
     turn: Turn,
     input: &mut [u8],
     output: &mut [u8],
-) -> Turn
+) -> Result<(Turn, usize), Failed>
     requires { length input.old ≡ length output.old }
-    ensures gated { (result ≡ Runs.stopped turn) ⊎ Runs.Over turn input.new output.old output.new result }
-    ensures carried { (result ≡ Runs.stopped turn)
-        ⊎ Carried turn (length input.new) (R.remaining from.old) (R.remaining from.new) (W.contents to.old) (W.contents to.new) result }
+    ensures gated { IfOk result (Runs.Over turn input.new output.old output.new) }
+    ensures carried { IfOk result (Carried turn (length input.new) (R.remaining from.old) (R.remaining from.new) (W.contents to.old) (W.contents to.new)) }
 {
-    let filled = fill(rt, from, input);
-    let n = filled.count;
-    let next = filled.next;
-    passed(rt, to, turn, &input[..n], &mut output[..n], next)
+    let (n, read) = fill(rt, from, input);
+    let next = passed(rt, to, turn, &input[..n], &mut output[..n])?;
+    read?;
+    Ok((next, n))
 }
 
-fn one_turn<R: Read, W: Write>(rt: &HostRuntime, from: &mut R, to: &mut W, turn: Turn) -> Turn
+fn one_turn<R: Read, W: Write>(
+    rt: &HostRuntime,
+    from: &mut R,
+    to: &mut W,
+    turn: Turn,
+) -> Result<(Turn, usize), Failed>
     ensures gated { Runs.OneTurn turn result }
-    ensures carried { (result ≡ Runs.stopped turn)
-        ⊎ Carried turn block_bytes (R.remaining from.old) (R.remaining from.new) (W.contents to.old) (W.contents to.new) result }
+    ensures carried { IfOk result (Carried turn block_bytes (R.remaining from.old) (R.remaining from.new) (W.contents to.old) (W.contents to.new)) }
 {
-    let mut input = [0u8; 4096];
-    let mut output = [0u8; 4096];
+    let mut input = [0u8; BLOCK];
+    let mut output = [0u8; BLOCK];
     block(rt, from, to, turn, &mut input, &mut output)
 }
 
-fn goes_on(turn: Turn) -> bool
-    ensures { result ≡ Runs.is_more turn.next }
-{
-    let next = turn.next;
-    match next {
-        Next::More => true,
-        Next::End => false,
-        Next::Failed => false,
-    }
-}
-
-// A proved loop has to end, and nothing says that the input does. So the turns are counted down from a
-// number that no run uses up.
-fn run<R: Read, W: Write>(rt: &HostRuntime, from: &mut R, to: &mut W) -> Turn
-    ensures along { Runs.Along result 0 }
+// A proved loop has to end, and nothing says that the input does. So there are so many turns that no run
+// uses them up.
+fn run<R: Read, W: Write>(rt: &HostRuntime, from: &mut R, to: &mut W) -> Result<Turn, Stopped>
+    ensures along { Runs.Along result }
     ensures carried { CarriedAll (R.remaining from.old) (R.remaining from.new) (W.contents to.old) (W.contents to.new) result }
 {
     let mut turn = Turn {
         gate: pcm_gate::program_gate(),
         samples: 0,
         aimed: 0,
-        next: Next::More,
     };
-    let mut turns = u64::MAX;
-    while turns > 0 && goes_on(turn) {
-        turn = one_turn(rt, from, to, turn);
-        turns -= 1;
+    for _ in 0..u64::MAX {
+        let (next, n) = one_turn(rt, from, to, turn)?;
+        turn = next;
+        if n < BLOCK {
+            return Ok(turn);
+        }
     }
-    turn
+    Err(Stopped::Unended(turn))
 }
 
 fn main(rt: HostRuntime) -> ExitCode {
-    let turn = run(&rt, &mut rt.stdin(), &mut rt.stdout());
-    let Next::End = turn.next else {
+    let Ok(turn) = run(&rt, &mut rt.stdin(), &mut rt.stdout()) else {
         return ExitCode::FAILURE;
     };
     match told::counts(&mut rt.stderr(), turn.samples, turn.aimed) {

@@ -4,11 +4,14 @@ ghost use Rattle.std.specs.Io.KnownBytes.{Appends};
 ghost use Rattle.gate.specs.Line.{counts_line};
 ghost use Rattle.gate.specs.Runs.{Said};
 
+use crate::Failed;
 use std::io;
 use std::io::Write;
 
-pub fn failed(rt: &HostRuntime, what: &[u8]) {
+// Says what failed.
+pub fn failed(rt: &HostRuntime, what: &[u8]) -> Failed {
     let _ = rt.stderr().write_all(what);
+    Failed
 }
 
 // Whoever has it say two counts shows that they are those of a run to the end of the input.

@@ -1,22 +1,30 @@
--- What a gate's setting and its block answer tells the same where it crosses. Assumes nothing.
-use mathlib.Core.Path.{◌≡◌, refl}
-use Rattle.answer.specs.Crossing.{told_in, of_refusal, of_done}
-use Rattle.answer.proofs.Answers.{hold-crosses, passed-crosses}
+-- What a stage's call, a gate's setting and its block answer tells the same where it crosses. Assumes nothing.
+use Rattle.std.specs.Prelude.{◌≡◌, refl, Option, Some, None, Result, Ok, Err, MatchOption, MatchResult, ⊤}
+use Rattle.float.specs.declared.Truncation.{Truncation}
+use Rattle.answer.specs.Figures.{nought}
+use Rattle.answer.specs.Crossing.{told_in, of_refusal, of_done, of_hold, of_passed}
+use Rattle.answer.specs.declared.Numbered.{Numbered}
+use Rattle.answer.specs.declared.Refusal.{Refusal}
+use Rattle.answer.specs.Told.{done}
+use Rattle.stage.specs.Calls.{told_by}
 use Rattle.noise_gate.specs.Answers.{told_set, told_block}
 use Rattle.noise_gate.specs.declared.Gate.{Gate}
-use Rattle.noise_gate.specs.declared.Adjustment.{Adjustment}
-use Rattle.noise_gate.specs.declared.Adjustment.TheVariants as adjustment
-use Rattle.noise_gate.specs.declared.Passage.{Passage}
-use Rattle.noise_gate.specs.declared.Passage.TheVariants as passage
-use Rattle.hoofglaze.specs.Gate.{adjusted, passed}
+use Rattle.noise_gate.specs.declared.Passed.{Passed}
 
-pub adjustment-crosses : (g : Gate) (a : Adjustment) → told_in g (adjusted a) ≡ told_set g a
-unfolding of_refusal of_done
-adjustment-crosses g adjustment.Done = refl
-adjustment-crosses g (adjustment.Held h) = hold-crosses g h
-adjustment-crosses g (adjustment.Refused r) = refl
+-- of a stage whose calls have no more to say
+pub done-crosses : {S : Type 0} (s : S) {n : Numbered} (a : Result ⊤ Refusal) → MatchResult a (λ _. n ≡ of_done 0 nought) (λ r. n ≡ of_refusal r) → told_in s n ≡ told_by (λ s _. done s) s a
+unfolding of_done of_refusal
+done-crosses s (Ok _) e = rw e refl
+done-crosses s (Err r) e = rw e refl
 
-pub passage-crosses : (g : Gate) (a : Passage) → told_in g (passed a) ≡ told_block g a
-unfolding of_refusal
-passage-crosses g (passage.Done p) = passed-crosses g p.count p.quiet
-passage-crosses g (passage.Refused r) = refl
+module _ (g : Gate) {n : Numbered} where
+  pub set-crosses : (a : Result (Option Truncation) Refusal) → MatchResult a (λ o. MatchOption o (n ≡ of_done 0 nought) (λ t. n ≡ of_hold t)) (λ r. n ≡ of_refusal r) → told_in g n ≡ told_set g a
+  unfolding of_done of_hold of_refusal
+  set-crosses (Ok None) e = rw e refl
+  set-crosses (Ok (Some t)) e = rw e refl
+  set-crosses (Err r) e = rw e refl
+
+  pub passed-crosses : (a : Result Passed Refusal) → MatchResult a (λ p. n ≡ of_passed p.count p.quiet) (λ r. n ≡ of_refusal r) → told_in g n ≡ told_block g a
+  unfolding of_passed of_refusal
+  passed-crosses (Ok p) e = rw e refl
+  passed-crosses (Err r) e = rw e refl

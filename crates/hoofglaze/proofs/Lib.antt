@@ -1,2 +1,2 @@
--- What a gate's block answers, where it crosses; what the calls in place share.
+-- What a stage's call, a gate's setting and its block answer, where they cross.
 pub mod Answers

@@ -1,2 +1,1 @@
--- An answer of the gate's block as it crosses to a host; every other is `answer`'s own.
-pub mod Gate
+-- No definition of its own: an answer crosses by `answer`'s.

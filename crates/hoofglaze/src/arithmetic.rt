@@ -55,10 +55,9 @@ pub extern "C" fn hoofglaze_truncated(x: f32) -> TruncationNumbered
     ensures { (result.whole ≡ to_unsigned 64 x) × (result.word ≡ number (exactness x)) }
 {
     let t = float::truncated(x);
-    let word = t.word;
     TruncationNumbered {
         whole: t.whole,
-        word: float::word_number(word),
+        word: t.word.into(),
     }
 }
 

@@ -11,12 +11,12 @@ use clipper::Kind;
 pub extern "C" fn hoofglaze_clip_hard(drive: f32, input: &[f32], output: &mut [f32]) -> Numbered
     ensures { told_in output.new result ≡ block Hard drive input.now output.old }
 {
-    answer::of_answer(clipper::block(Kind::Hard, drive, input, output))
+    clipper::block(Kind::Hard, drive, input, output).into()
 }
 
 #[unsafe(no_mangle)]
 pub extern "C" fn hoofglaze_clip_triode(drive: f32, input: &[f32], output: &mut [f32]) -> Numbered
     ensures { told_in output.new result ≡ block Triode drive input.now output.old }
 {
-    answer::of_answer(clipper::block(Kind::Triode, drive, input, output))
+    clipper::block(Kind::Triode, drive, input, output).into()
 }

@@ -5,10 +5,12 @@ ghost use Rattle.noise_gate.specs.Calls as calls;
 ghost use Rattle.noise_gate_settings.specs.declared.Setting.TheVariants.{Threshold, Ratio, Attack, Release, Hold};
 ghost use Rattle.answer.specs.Crossing.{told_in};
 ghost use Rattle.answer.specs.Told.{told};
-ghost use Rattle.hoofglaze.specs.Gate as crossing;
 
-use answer::{Decibels, Factor, Numbered};
-use noise_gate::{Adjusted, Adjustment, Answered, Before, Gate, Passage, Passed, Ran, Setting};
+use crate::crossing::made;
+use answer::{Decibels, Factor, Numbered, Refusal};
+use float::Truncation;
+use noise_gate::{Before, Gate, Passed, Setting};
+use stage::Stage;
 
 #[repr(C)]
 #[derive(Clone, Copy)]
@@ -17,89 +19,66 @@ pub struct GateAnswered {
     pub answer: Numbered,
 }
 
-fn counted(p: Passed) -> Numbered
-    ensures { result ≡ crossing.counted p }
+fn answered(gate: Gate, answer: Result<(), Refusal>) -> GateAnswered
+    ensures { told_in result.gate result.answer ≡ told gate answer }
 {
-    answer::of_passed(p.count, p.quiet)
-}
-
-fn passed(a: Passage) -> Numbered
-    ensures { result ≡ crossing.passed a }
-{
-    match a {
-        Passage::Done(p) => counted(p),
-        Passage::Refused(r) => answer::of_refusal(r),
-    }
-}
-
-fn adjusted(a: Adjustment) -> Numbered
-    ensures { result ≡ crossing.adjusted a }
-{
-    match a {
-        Adjustment::Done => answer::of_done(0, 0.0),
-        Adjustment::Held(h) => answer::of_hold(h),
-        Adjustment::Refused(r) => answer::of_refusal(r),
-    }
-}
-
-fn crossed(a: Answered) -> GateAnswered
-    ensures { told_in result.gate result.answer ≡ told a.gate a.answer }
-{
-    let state = a.gate;
-    let answer = a.answer;
     GateAnswered {
-        gate: state,
-        answer: answer::of_answer(answer),
+        gate,
+        answer: answer.into(),
     }
 }
 
-fn set(a: Adjusted) -> GateAnswered
-    ensures { told_in result.gate result.answer ≡ told_set a.gate a.answer }
+fn set(gate: Gate, answer: Result<Option<Truncation>, Refusal>) -> GateAnswered
+    ensures { told_in result.gate result.answer ≡ told_set gate answer }
 {
-    let state = a.gate;
-    let answer = a.answer;
     GateAnswered {
-        gate: state,
-        answer: adjusted(answer),
+        gate,
+        answer: answer.into(),
     }
 }
 
-fn ran(a: Ran) -> GateAnswered
-    ensures { told_in result.gate result.answer ≡ told_block a.gate a.answer }
+fn ran(gate: Gate, answer: Result<Passed, Refusal>) -> GateAnswered
+    ensures { told_in result.gate result.answer ≡ told_block gate answer }
 {
-    let state = a.gate;
-    let answer = a.answer;
     GateAnswered {
-        gate: state,
-        answer: passed(answer),
+        gate,
+        answer: answer.into(),
     }
 }
 
-fn set_typed(g: Gate, t: Setting) -> GateAnswered
+fn set_typed(mut g: Gate, t: Setting) -> GateAnswered
     ensures { told_in result.gate result.answer ≡ calls.set_typed g t }
 {
-    set(noise_gate::set_typed(g, t))
+    let answer = g.set_typed(t);
+    set(g, answer)
 }
 
 #[unsafe(no_mangle)]
 pub extern "C" fn hoofglaze_gate_make(rate: f32, rising: f32, falling: f32) -> GateAnswered
     ensures { told_in result.gate result.answer ≡ calls.make rate rising falling }
 {
-    crossed(noise_gate::make(rate, rising, falling))
+    let (gate, answer) = made(Gate::unmade(), Gate::make(rate, rising, falling));
+    answered(gate, answer)
 }
 
 #[unsafe(no_mangle)]
 pub extern "C" fn hoofglaze_gate_load(b: Before) -> Gate
     ensures { result ≡ calls.load b }
 {
-    noise_gate::load(b)
+    b.into()
 }
 
 #[unsafe(no_mangle)]
-pub extern "C" fn hoofglaze_gate_set(g: Gate, name: &[u8], value: f32, worked: f32) -> GateAnswered
+pub extern "C" fn hoofglaze_gate_set(
+    mut g: Gate,
+    name: &[u8],
+    value: f32,
+    worked: f32,
+) -> GateAnswered
     ensures { told_in result.gate result.answer ≡ calls.set g name.now value worked }
 {
-    set(noise_gate::set(g, name, value, worked))
+    let answer = g.set(name, value, worked);
+    set(g, answer)
 }
 
 #[unsafe(no_mangle)]
@@ -145,31 +124,38 @@ pub extern "C" fn hoofglaze_gate_set_hold(g: Gate, value: f32) -> GateAnswered
 pub extern "C" fn hoofglaze_gate_read(g: Gate, name: &[u8]) -> Numbered
     ensures { told_in g result ≡ calls.read g name.now }
 {
-    answer::of_reading(noise_gate::read(g, name))
+    g.read(name).into()
 }
 
 #[unsafe(no_mangle)]
-pub extern "C" fn hoofglaze_gate_reset(g: Gate) -> GateAnswered
+pub extern "C" fn hoofglaze_gate_reset(mut g: Gate) -> GateAnswered
     ensures { told_in result.gate result.answer ≡ calls.reset g }
 {
-    crossed(noise_gate::reset(g))
+    let answer = g.reset();
+    answered(g, answer)
 }
 
 #[unsafe(no_mangle)]
-pub extern "C" fn hoofglaze_gate_block(g: Gate, input: &[f32], output: &mut [f32]) -> GateAnswered
+pub extern "C" fn hoofglaze_gate_block(
+    mut g: Gate,
+    input: &[f32],
+    output: &mut [f32],
+) -> GateAnswered
     ensures { (told_in result.gate result.answer, output.new) ≡ calls.block g input.now output.old }
 {
-    ran(noise_gate::block(g, input, output))
+    let answer = g.block(input, output);
+    ran(g, answer)
 }
 
 #[unsafe(no_mangle)]
 pub extern "C" fn hoofglaze_gate_record(
-    g: Gate,
+    mut g: Gate,
     input: &[f32],
     output: &mut [f32],
     aims: &mut [u8],
 ) -> GateAnswered
     ensures { (told_in result.gate result.answer, output.new, aims.new) ≡ calls.block_recorded g input.now output.old aims.old }
 {
-    ran(noise_gate::block_recorded(g, input, output, aims))
+    let answer = g.block_recorded(input, output, aims);
+    ran(g, answer)
 }

@@ -5,8 +5,10 @@ ghost use Rattle.leveller.specs.Calls as calls;
 ghost use Rattle.leveller_settings.specs.declared.Setting.TheVariants.{Threshold, Ratio, Attack, Release, Makeup};
 ghost use Rattle.answer.specs.Crossing.{told_in};
 
-use answer::{Decibels, Factor, Numbered};
-use leveller::{Answered, Leveller, Setting};
+use crate::crossing::made;
+use answer::{Decibels, Factor, Numbered, Refusal};
+use leveller::{Leveller, Setting};
+use stage::Stage;
 
 #[repr(C)]
 #[derive(Clone, Copy)]
@@ -15,40 +17,41 @@ pub struct LevellerAnswered {
     pub answer: Numbered,
 }
 
-fn crossed(a: Answered) -> LevellerAnswered
-    ensures { told_in result.leveller result.answer ≡ told a.leveller a.answer }
+fn answered(leveller: Leveller, answer: Result<(), Refusal>) -> LevellerAnswered
+    ensures { told_in result.leveller result.answer ≡ told leveller answer }
 {
-    let state = a.leveller;
-    let answer = a.answer;
     LevellerAnswered {
-        leveller: state,
-        answer: answer::of_answer(answer),
+        leveller,
+        answer: answer.into(),
     }
 }
 
-fn set_typed(l: Leveller, t: Setting) -> LevellerAnswered
+fn set_typed(mut l: Leveller, t: Setting) -> LevellerAnswered
     ensures { told_in result.leveller result.answer ≡ calls.set_typed l t }
 {
-    crossed(leveller::set_typed(l, t))
+    let answer = l.set_typed(t);
+    answered(l, answer)
 }
 
 #[unsafe(no_mangle)]
 pub extern "C" fn hoofglaze_leveller_make(rate: f32, rising: f32, falling: f32) -> LevellerAnswered
     ensures { told_in result.leveller result.answer ≡ calls.make rate rising falling }
 {
-    crossed(leveller::make(rate, rising, falling))
+    let (leveller, answer) = made(Leveller::unmade(), Leveller::make(rate, rising, falling));
+    answered(leveller, answer)
 }
 
 #[unsafe(no_mangle)]
 pub extern "C" fn hoofglaze_leveller_set(
-    l: Leveller,
+    mut l: Leveller,
     name: &[u8],
     value: f32,
     worked: f32,
 ) -> LevellerAnswered
     ensures { told_in result.leveller result.answer ≡ calls.set l name.now value worked }
 {
-    crossed(leveller::set(l, name, value, worked))
+    let answer = l.set(name, value, worked);
+    answered(l, answer)
 }
 
 #[unsafe(no_mangle)]
@@ -102,23 +105,25 @@ pub extern "C" fn hoofglaze_leveller_set_makeup(l: Leveller, value: Factor) -> L
 pub extern "C" fn hoofglaze_leveller_read(l: Leveller, name: &[u8]) -> Numbered
     ensures { told_in l result ≡ calls.read l name.now }
 {
-    answer::of_reading(leveller::read(l, name))
+    l.read(name).into()
 }
 
 #[unsafe(no_mangle)]
-pub extern "C" fn hoofglaze_leveller_reset(l: Leveller) -> LevellerAnswered
+pub extern "C" fn hoofglaze_leveller_reset(mut l: Leveller) -> LevellerAnswered
     ensures { told_in result.leveller result.answer ≡ calls.reset l }
 {
-    crossed(leveller::reset(l))
+    let answer = l.reset();
+    answered(l, answer)
 }
 
 #[unsafe(no_mangle)]
 pub extern "C" fn hoofglaze_leveller_block(
-    l: Leveller,
+    mut l: Leveller,
     input: &[f32],
     output: &mut [f32],
 ) -> LevellerAnswered
     ensures { (told_in result.leveller result.answer, output.new) ≡ calls.block l input.now output.old }
 {
-    crossed(leveller::block(l, input, output))
+    let answer = l.block(input, output);
+    answered(l, answer)
 }

@@ -4,6 +4,7 @@
 
 pub mod arithmetic;
 pub mod clip;
+mod crossing;
 pub mod equalise;
 pub mod gate;
 pub mod gate_in_place;

@@ -4,6 +4,7 @@ ghost use Rattle.common.specs.Blocker as blocker;
 ghost use Rattle.common.specs.Follower as follower;
 ghost use Rattle.answer.specs.Crossing.{told_in};
 
+use crate::crossing::made;
 use answer::Numbered;
 use common::blocker::Blocker;
 use common::follower::Follower;
@@ -26,38 +27,32 @@ pub struct BlockerAnswered {
 pub extern "C" fn hoofglaze_follower_make(attack: f32, release: f32) -> FollowerAnswered
     ensures { told_in result.follower result.answer ≡ follower.make attack release }
 {
-    let r = common::follower::make(attack, release);
-    let state = r.follower;
-    let answer = r.answer;
+    let (follower, answer) = made(Follower::unmade(), Follower::make(attack, release));
     FollowerAnswered {
-        follower: state,
-        answer: answer::of_answer(answer),
+        follower,
+        answer: answer.into(),
     }
 }
 
 #[unsafe(no_mangle)]
-pub extern "C" fn hoofglaze_follower_step(f: Follower, x: f32) -> FollowerAnswered
+pub extern "C" fn hoofglaze_follower_step(mut f: Follower, x: f32) -> FollowerAnswered
     ensures { told_in result.follower result.answer ≡ follower.step f x }
 {
-    let r = common::follower::step(f, x);
-    let state = r.follower;
-    let output = r.output;
+    let output = f.step(x);
     FollowerAnswered {
-        follower: state,
-        answer: answer::of_reading(output),
+        follower: f,
+        answer: output.into(),
     }
 }
 
 #[unsafe(no_mangle)]
-pub extern "C" fn hoofglaze_follower_reset(f: Follower) -> FollowerAnswered
+pub extern "C" fn hoofglaze_follower_reset(mut f: Follower) -> FollowerAnswered
     ensures { told_in result.follower result.answer ≡ follower.reset f }
 {
-    let r = common::follower::reset(f);
-    let state = r.follower;
-    let answer = r.answer;
+    let answer = f.reset();
     FollowerAnswered {
-        follower: state,
-        answer: answer::of_answer(answer),
+        follower: f,
+        answer: answer.into(),
     }
 }
 
@@ -65,37 +60,31 @@ pub extern "C" fn hoofglaze_follower_reset(f: Follower) -> FollowerAnswered
 pub extern "C" fn hoofglaze_blocker_make(c: f32) -> BlockerAnswered
     ensures { told_in result.blocker result.answer ≡ blocker.make c }
 {
-    let r = common::blocker::make(c);
-    let state = r.blocker;
-    let answer = r.answer;
+    let (blocker, answer) = made(Blocker::unmade(), Blocker::make(c));
     BlockerAnswered {
-        blocker: state,
-        answer: answer::of_answer(answer),
+        blocker,
+        answer: answer.into(),
     }
 }
 
 #[unsafe(no_mangle)]
-pub extern "C" fn hoofglaze_blocker_step(b: Blocker, x: f32) -> BlockerAnswered
+pub extern "C" fn hoofglaze_blocker_step(mut b: Blocker, x: f32) -> BlockerAnswered
     ensures { told_in result.blocker result.answer ≡ blocker.step b x }
 {
-    let r = common::blocker::step(b, x);
-    let state = r.blocker;
-    let output = r.output;
+    let output = b.step(x);
     BlockerAnswered {
-        blocker: state,
-        answer: answer::of_reading(output),
+        blocker: b,
+        answer: output.into(),
     }
 }
 
 #[unsafe(no_mangle)]
-pub extern "C" fn hoofglaze_blocker_reset(b: Blocker) -> BlockerAnswered
+pub extern "C" fn hoofglaze_blocker_reset(mut b: Blocker) -> BlockerAnswered
     ensures { told_in result.blocker result.answer ≡ blocker.reset b }
 {
-    let r = common::blocker::reset(b);
-    let state = r.blocker;
-    let answer = r.answer;
+    let answer = b.reset();
     BlockerAnswered {
-        blocker: state,
-        answer: answer::of_answer(answer),
+        blocker: b,
+        answer: answer.into(),
     }
 }

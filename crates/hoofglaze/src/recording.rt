@@ -7,7 +7,7 @@ ghost use Rattle.wave_write.specs.Writing.{write, write_head};
 pub extern "C" fn hoofglaze_wave_read(buffer: &[u8]) -> wave::Figures
     ensures { result ≡ read buffer.now }
 {
-    wave::told(wave::read(buffer))
+    wave::read(buffer).into()
 }
 
 #[unsafe(no_mangle)]
@@ -18,7 +18,7 @@ pub extern "C" fn hoofglaze_wave_write(
 ) -> wave_write::Figures
     ensures { (result, output.new) ≡ write rate samples.now output.old }
 {
-    wave_write::told(wave_write::write(rate, samples, output))
+    wave_write::write(rate, samples, output).into()
 }
 
 #[unsafe(no_mangle)]
@@ -29,5 +29,5 @@ pub extern "C" fn hoofglaze_wave_head(
 ) -> wave_write::Figures
     ensures { (result, output.new) ≡ write_head rate size output.old }
 {
-    wave_write::told(wave_write::write_head(rate, size, output))
+    wave_write::write_head(rate, size, output).into()
 }

@@ -5,10 +5,11 @@ ghost use Rattle.multiband_saturator_settings.specs.declared.Band.TheVariants as
 ghost use Rattle.multiband_saturator_settings.specs.declared.Frequency.TheVariants as frequency;
 ghost use Rattle.multiband_saturator_settings.specs.declared.Setting.TheVariants.{Drive, Level, Freq};
 ghost use Rattle.answer.specs.Crossing.{told_in};
-ghost use Rattle.answer.specs.Told.{told};
 
+use crate::crossing::made;
 use answer::Numbered;
 use multiband_saturator::{Band, Crossover, Frequency, Saturator, Setting};
+use stage::Stage;
 
 #[repr(C)]
 #[derive(Clone, Copy)]
@@ -17,21 +18,14 @@ pub struct SaturatorAnswered {
     pub answer: Numbered,
 }
 
-fn crossed(a: multiband_saturator::Answered) -> SaturatorAnswered
-    ensures { told_in result.saturator result.answer ≡ told a.saturator a.answer }
-{
-    let saturator = a.saturator;
-    let answer = a.answer;
-    SaturatorAnswered {
-        saturator: saturator,
-        answer: answer::of_answer(answer),
-    }
-}
-
-fn set_typed(s: Saturator, t: Setting) -> SaturatorAnswered
+fn set_typed(mut s: Saturator, t: Setting) -> SaturatorAnswered
     ensures { told_in result.saturator result.answer ≡ calls.set_typed s t }
 {
-    crossed(multiband_saturator::set_typed(s, t))
+    let answer = s.set_typed(t).into();
+    SaturatorAnswered {
+        saturator: s,
+        answer,
+    }
 }
 
 #[unsafe(no_mangle)]
@@ -45,19 +39,30 @@ pub extern "C" fn hoofglaze_saturator_make(
 ) -> SaturatorAnswered
     ensures { told_in result.saturator result.answer ≡ calls.make rate low high attack release blocker }
 {
-    crossed(multiband_saturator::make(rate, low, high, attack, release, blocker))
+    let (saturator, answer) = made(
+        Saturator::unmade(),
+        Saturator::make(rate, low, high, attack, release, blocker),
+    );
+    SaturatorAnswered {
+        saturator,
+        answer: answer.into(),
+    }
 }
 
 #[unsafe(no_mangle)]
 pub extern "C" fn hoofglaze_saturator_set(
-    s: Saturator,
+    mut s: Saturator,
     name: &[u8],
     value: f32,
     worked: Crossover,
 ) -> SaturatorAnswered
     ensures { told_in result.saturator result.answer ≡ calls.set s name.now value worked }
 {
-    crossed(multiband_saturator::set(s, name, value, worked))
+    let answer = s.set(name, value, worked).into();
+    SaturatorAnswered {
+        saturator: s,
+        answer,
+    }
 }
 
 #[unsafe(no_mangle)]
@@ -128,23 +133,31 @@ pub extern "C" fn hoofglaze_saturator_set_high_freq(
 pub extern "C" fn hoofglaze_saturator_read(s: Saturator, name: &[u8]) -> Numbered
     ensures { told_in s result ≡ calls.read s name.now }
 {
-    answer::of_reading(multiband_saturator::read(s, name))
+    s.read(name).into()
 }
 
 #[unsafe(no_mangle)]
-pub extern "C" fn hoofglaze_saturator_reset(s: Saturator) -> SaturatorAnswered
+pub extern "C" fn hoofglaze_saturator_reset(mut s: Saturator) -> SaturatorAnswered
     ensures { told_in result.saturator result.answer ≡ calls.reset s }
 {
-    crossed(multiband_saturator::reset(s))
+    let answer = s.reset().into();
+    SaturatorAnswered {
+        saturator: s,
+        answer,
+    }
 }
 
 #[unsafe(no_mangle)]
 pub extern "C" fn hoofglaze_saturator_block(
-    s: Saturator,
+    mut s: Saturator,
     input: &[f32],
     output: &mut [f32],
 ) -> SaturatorAnswered
     ensures { (told_in result.saturator result.answer, output.new) ≡ calls.block s input.now output.old }
 {
-    crossed(multiband_saturator::block(s, input, output))
+    let answer = s.block(input, output).into();
+    SaturatorAnswered {
+        saturator: s,
+        answer,
+    }
 }

@@ -6,8 +6,10 @@ ghost use Rattle.tonestack.specs.Calls as calls;
 ghost use Rattle.tonestack_sample.specs.declared.Setting.TheVariants.{Bass, Mid, Treble, Presence};
 ghost use Rattle.answer.specs.Crossing.{told_in};
 
-use answer::{Factor, Numbered};
-use tonestack::{Answered, Model, Setting, Tone};
+use crate::crossing::made;
+use answer::{Factor, Numbered, Refusal};
+use stage::Stage;
+use tonestack::{Model, Setting, Tone};
 
 #[repr(C)]
 #[derive(Clone, Copy)]
@@ -16,27 +18,27 @@ pub struct ToneAnswered {
     pub answer: Numbered,
 }
 
-fn crossed(r: Answered) -> ToneAnswered
-    ensures { told_in result.tone result.answer ≡ told r.tone r.answer }
+fn answered(tone: Tone, answer: Result<(), Refusal>) -> ToneAnswered
+    ensures { told_in result.tone result.answer ≡ told tone answer }
 {
-    let state = r.tone;
-    let answer = r.answer;
     ToneAnswered {
-        tone: state,
-        answer: answer::of_answer(answer),
+        tone,
+        answer: answer.into(),
     }
 }
 
 fn make(model: Model, rate: f32) -> ToneAnswered
     ensures { told_in result.tone result.answer ≡ calls.make model rate }
 {
-    crossed(tonestack::make(model, rate))
+    let (tone, answer) = made(Tone::unmade(), Tone::make(model, rate));
+    answered(tone, answer)
 }
 
-fn set_typed(t: Tone, v: Setting) -> ToneAnswered
+fn set_typed(mut t: Tone, v: Setting) -> ToneAnswered
     ensures { told_in result.tone result.answer ≡ calls.set_typed t v }
 {
-    crossed(tonestack::set_typed(t, v))
+    let answer = t.set_typed(v);
+    answered(t, answer)
 }
 
 #[unsafe(no_mangle)]
@@ -68,10 +70,16 @@ pub extern "C" fn hoofglaze_tone_make_flat(rate: f32) -> ToneAnswered
 }
 
 #[unsafe(no_mangle)]
-pub extern "C" fn hoofglaze_tone_set(t: Tone, name: &[u8], value: f32, worked: f32) -> ToneAnswered
+pub extern "C" fn hoofglaze_tone_set(
+    mut t: Tone,
+    name: &[u8],
+    value: f32,
+    worked: f32,
+) -> ToneAnswered
     ensures { told_in result.tone result.answer ≡ calls.set t name.now value worked }
 {
-    crossed(tonestack::set(t, name, value, worked))
+    let answer = t.set(name, value, worked);
+    answered(t, answer)
 }
 
 #[unsafe(no_mangle)]
@@ -106,19 +114,25 @@ pub extern "C" fn hoofglaze_tone_set_presence(t: Tone, value: f32, worked: Facto
 pub extern "C" fn hoofglaze_tone_read(t: Tone, name: &[u8]) -> Numbered
     ensures { told_in t result ≡ calls.read t name.now }
 {
-    answer::of_reading(tonestack::read(t, name))
+    t.read(name).into()
 }
 
 #[unsafe(no_mangle)]
-pub extern "C" fn hoofglaze_tone_reset(t: Tone) -> ToneAnswered
+pub extern "C" fn hoofglaze_tone_reset(mut t: Tone) -> ToneAnswered
     ensures { told_in result.tone result.answer ≡ calls.reset t }
 {
-    crossed(tonestack::reset(t))
+    let answer = t.reset();
+    answered(t, answer)
 }
 
 #[unsafe(no_mangle)]
-pub extern "C" fn hoofglaze_tone_block(t: Tone, input: &[f32], output: &mut [f32]) -> ToneAnswered
+pub extern "C" fn hoofglaze_tone_block(
+    mut t: Tone,
+    input: &[f32],
+    output: &mut [f32],
+) -> ToneAnswered
     ensures { (told_in result.tone result.answer, output.new) ≡ calls.block t input.now output.old }
 {
-    crossed(tonestack::block(t, input, output))
+    let answer = t.block(input, output).into();
+    ToneAnswered { tone: t, answer }
 }

@@ -1,6 +1,6 @@
 -- The leveller's calls: make, set, read, reset, block, with document 02's refusals in the gate's order. Definitions only.
 -- Assumes nothing.
-use Rattle.std.specs.Prelude.{ℕ, ◌&&◌, List, Float}
+use Rattle.std.specs.Prelude.{ℕ, ◌&&◌, List, Float, Option, Some, None}
 use Rattle.answer.specs.Figures.{f32, nought, one}
 use Rattle.answer.specs.Checks.{is_rate, is_smoothing}
 use Rattle.answer.specs.Told.{Told, refused, done, done_with, unless}
@@ -15,8 +15,6 @@ use Rattle.leveller_settings.specs.declared.Settings.{Settings}
 use Rattle.leveller_sample.specs.declared.Registers.{Registers}
 use Rattle.leveller.specs.declared.Leveller.{Leveller}
 use Rattle.leveller_settings.specs.declared.Setting.{Setting}
-use Rattle.leveller_settings.specs.declared.Named.{Named}
-use Rattle.leveller_settings.specs.declared.Named.TheVariants.{Known, Unknown}
 
 abbrev pub leveller_of : Settings → Registers → Leveller
 leveller_of s m = record { settings = s; registers = m }
@@ -65,17 +63,17 @@ set_typed l t =
     (unless (worked t) (refused l BadWorkedNumber)
     (done (leveller_of (with_setting l.settings t) l.registers))))
 
-unfoldable pub set_found : Leveller → Named → Told Leveller
-set_found l (Known t) = set_typed l t
-set_found l Unknown = refused l NoSetting
+unfoldable pub set_found : Leveller → Option Setting → Told Leveller
+set_found l (Some t) = set_typed l t
+set_found l None = refused l NoSetting
 
 unfoldable pub set : Leveller → List ℕ → Float → Float → Told Leveller
 set l name v w = unless (acceptable l) (refused l BadState) (set_found l (named name v w))
 
 -- ---- read: 9, 1. The numbers that stand beside a name when it is set play no part
-unfoldable pub read_found : Leveller → Named → Told Leveller
-read_found l (Known t) = done_with l 0 (kept l.settings t)
-read_found l Unknown = refused l NoSetting
+unfoldable pub read_found : Leveller → Option Setting → Told Leveller
+read_found l (Some t) = done_with l 0 (kept l.settings t)
+read_found l None = refused l NoSetting
 
 unfoldable pub read : Leveller → List ℕ → Told Leveller
 read l name = unless (acceptable l) (refused l BadState) (read_found l (named name nought nought))

@@ -1,3 +1,4 @@
 -- The leveller: what 9 accepts, and the calls.
 pub mod Bounds
 pub mod Calls
+pub mod AsStage

@@ -1,12 +1,9 @@
-// The leveller for soft talkers: its state and its calls.
+// The leveller for soft talkers: its state, its making, and what it is as a stage.
 #![tactic(auto)]
 
-mod bounds;
-mod calls;
-mod samples;
+mod as_stage;
+mod making;
 
-use answer::Answer;
-pub use calls::{block, make, read, reset, set, set_typed};
 use leveller_sample::Registers;
 pub use leveller_settings::Setting;
 use leveller_settings::Settings;
@@ -17,11 +14,4 @@ use leveller_settings::Settings;
 pub struct Leveller {
     pub settings: Settings,
     pub registers: Registers,
-}
-
-// The leveller after a call, and what making, setting, reset and a block answer.
-#[derive(Clone, Copy)]
-pub struct Answered {
-    pub leveller: Leveller,
-    pub answer: Answer,
 }

@@ -10,7 +10,6 @@ use Rattle.common.specs.Follower.{followed}
 use Rattle.leveller_sample.specs.Figures.{least, two}
 use Rattle.leveller_settings.specs.declared.Settings.{Settings}
 use Rattle.leveller_sample.specs.declared.Registers.{Registers}
-use Rattle.leveller_sample.specs.declared.Stepped.{Stepped}
 
 -- the larger of x and a number a, which is a where x is NaN
 unfoldable pub larger : Float → Float → Float
@@ -46,5 +45,5 @@ module _ (s : Settings) (m : Registers) (x : Float) where
   unfoldable pub next : Registers
   next = record { level = level }
 
-  unfoldable pub step : Stepped
-  step = record { registers = next; output = output }
+  unfoldable pub step : Registers × Float
+  step = (next, output)

@@ -13,13 +13,6 @@ pub struct Registers {
     pub level: f32,
 }
 
-// What a sample leaves and gives.
-#[derive(Clone, Copy)]
-pub struct Stepped {
-    pub registers: Registers,
-    pub output: f32,
-}
-
 // The least that the follower is fed.
 const LEAST: f32 = 1e-10;
 
@@ -33,10 +26,7 @@ fn larger(x: f32, a: f32) -> f32
 fn gain(ratio: f32, over: f32) -> f32
     ensures { result ≡ Step.gain_at ratio over }
 {
-    if ratio == 1.0 {
-        return 1.0;
-    }
-    if over == 1.0 {
+    if ratio == 1.0 || over == 1.0 {
         return 1.0;
     }
     let s = float::root32(over);
@@ -48,7 +38,7 @@ fn gain(ratio: f32, over: f32) -> f32
 }
 
 // What a sample x leaves and gives. Every NaN in it is the quiet one.
-pub fn step(s: Settings, m: Registers, x: f32) -> Stepped
+pub fn step(s: Settings, m: Registers, x: f32) -> (Registers, f32)
     ensures { result ≡ Step.step s m x }
 {
     let fed = larger(float::size32(x), LEAST);
@@ -56,10 +46,8 @@ pub fn step(s: Settings, m: Registers, x: f32) -> Stepped
     let over = larger(level / s.factor.0, 1.0);
     let g = gain(s.ratio, over);
     let output = x * g * s.makeup.0;
-    Stepped {
-        registers: Registers {
-            level: float::settled32(level),
-        },
-        output: float::settled32(output),
-    }
+    let next = Registers {
+        level: float::settled32(level),
+    };
+    (next, float::settled32(output))
 }

@@ -5,8 +5,6 @@ mod names;
 mod ranges;
 
 use answer::{Decibels, Factor, Timed};
-pub use names::{find, kept};
-pub use ranges::{in_its_range, settable, with_setting, worked};
 
 // What a host sets. `factor` is the threshold's; attack and release are the follower's, each with its smoothing
 // number.
@@ -30,11 +28,4 @@ pub enum Setting {
     Attack(f32, f32),
     Release(f32, f32),
     Makeup(Factor),
-}
-
-// What a name and the numbers beside it ask for.
-#[derive(Clone, Copy)]
-pub enum Named {
-    Known(Setting),
-    Unknown,
 }

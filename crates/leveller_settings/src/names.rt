@@ -1,68 +1,50 @@
 // The names of the settings, as bytes.
-ghost use Rattle.std.specs.Prelude.{cond, ◌≡◌};
-ghost use Rattle.answer.specs.Names.{same};
+ghost use Rattle.std.specs.Prelude.{◌≡◌, Option};
 ghost use Rattle.leveller_settings.specs.Names as Names;
 
-use crate::{Named, Setting, Settings};
-use answer::{Decibels, Factor, settled32};
+use crate::{Setting, Settings};
+use answer::{Decibels, Factor, same, settled32};
 
-// What a name is looked up to: what the row stands for where it is the row's, and else what comes after.
-fn row(name: &[u8], word: &[u8], found: Named, after: Named) -> Named
-    ensures { result ≡ cond (same name.now word.now) found after }
-{
-    if answer::same(name, word) {
-        found
-    } else {
-        after
+impl Setting {
+    // What a name asks for, v being the value and w the worked number beside it.
+    #[tactic(auto, unfolding(crate::specs::Names::named))]
+    pub fn named(name: &[u8], v: f32, w: f32) -> Option<Setting>
+        ensures { result ≡ Names.named name.now v w }
+    {
+        if same(name, b"threshold") {
+            Some(Setting::Threshold(Decibels(v), Factor(w)))
+        } else if same(name, b"ratio") {
+            Some(Setting::Ratio(v))
+        } else if same(name, b"attack") {
+            Some(Setting::Attack(v, w))
+        } else if same(name, b"release") {
+            Some(Setting::Release(v, w))
+        } else if same(name, b"makeup") {
+            Some(Setting::Makeup(Factor(v)))
+        } else {
+            None
+        }
     }
 }
 
-// What a name asks for, v being the value and w the worked number beside it.
-pub fn find(name: &[u8], v: f32, w: f32) -> Named
-    ensures { result ≡ Names.named name.now v w }
-{
-    let makeup = row(
-        name,
-        b"makeup",
-        Named::Known(Setting::Makeup(Factor(v))),
-        Named::Unknown,
-    );
-    let release = row(
-        name,
-        b"release",
-        Named::Known(Setting::Release(v, w)),
-        makeup,
-    );
-    let attack = row(
-        name,
-        b"attack",
-        Named::Known(Setting::Attack(v, w)),
-        release,
-    );
-    let ratio = row(name, b"ratio", Named::Known(Setting::Ratio(v)), attack);
-    row(
-        name,
-        b"threshold",
-        Named::Known(Setting::Threshold(Decibels(v), Factor(w))),
-        ratio,
-    )
-}
-
-fn held(s: Settings, t: Setting) -> f32
-    ensures { result ≡ Names.kept s t }
-{
-    match t {
-        Setting::Threshold(_, _) => s.threshold.0,
-        Setting::Ratio(_) => s.ratio,
-        Setting::Attack(_, _) => s.attack.ms,
-        Setting::Release(_, _) => s.release.ms,
-        Setting::Makeup(_) => s.makeup.0,
+impl Settings {
+    #[tactic(auto, unfolding(crate::specs::Names::kept))]
+    fn held(&self, t: Setting) -> f32
+        ensures { result ≡ Names.kept self.now t }
+    {
+        match t {
+            Setting::Threshold(_, _) => self.threshold.0,
+            Setting::Ratio(_) => self.ratio,
+            Setting::Attack(_, _) => self.attack.ms,
+            Setting::Release(_, _) => self.release.ms,
+            Setting::Makeup(_) => self.makeup.0,
+        }
     }
-}
 
-// The value kept for the setting that t is one of, any NaN as the quiet one.
-pub fn kept(s: Settings, t: Setting) -> f32
-    ensures { result ≡ Names.kept s t }
-{
-    settled32(held(s, t))
+    // The value kept for the setting that t is one of, any NaN as the quiet one.
+    pub fn kept(&self, t: Setting) -> f32
+        ensures { result ≡ Names.kept self.now t }
+    {
+        settled32(self.held(t))
+    }
 }

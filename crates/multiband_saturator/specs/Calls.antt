@@ -1,6 +1,6 @@
 -- The saturator's calls: make, set, read, reset, block, with document 01's refusals in its order. Definitions only.
 -- Assumes nothing.
-use Rattle.std.specs.Prelude.{ℕ, List, Float}
+use Rattle.std.specs.Prelude.{ℕ, List, Float, Option, Some, None}
 use Rattle.answer.specs.Figures.{f32, nought, one}
 use Rattle.answer.specs.Checks.{is_rate}
 use Rattle.answer.specs.Blocks.{checked_block}
@@ -15,8 +15,6 @@ use Rattle.multiband_saturator_settings.specs.declared.Bands.{Bands}
 use Rattle.multiband_saturator_settings.specs.declared.Frequencies.{Frequencies}
 use Rattle.multiband_saturator_settings.specs.declared.Settings.{Settings}
 use Rattle.multiband_saturator_settings.specs.declared.Setting.{Setting}
-use Rattle.multiband_saturator_settings.specs.declared.Named.{Named}
-use Rattle.multiband_saturator_settings.specs.declared.Named.TheVariants.{Known, Unknown}
 use Rattle.multiband_saturator_sample.specs.Step.{output, next}
 use Rattle.multiband_saturator_sample.specs.declared.Biquad.{Biquad}
 use Rattle.multiband_saturator_sample.specs.declared.Filter.{Filter}
@@ -100,17 +98,17 @@ set_typed s t =
     (unless (worked t) (refused s BadWorkedNumber)
     (done (saturator_of (with_setting s.settings t) s.registers))))
 
-unfoldable pub set_found : Saturator → Named → Told Saturator
-set_found s (Known t) = set_typed s t
-set_found s Unknown = refused s NoSetting
+unfoldable pub set_found : Saturator → Option Setting → Told Saturator
+set_found s (Some t) = set_typed s t
+set_found s None = refused s NoSetting
 
 unfoldable pub set : Saturator → List ℕ → Float → Crossover → Told Saturator
 set s name v c = unless (settable s.settings) (refused s BadState) (set_found s (named name v c))
 
 -- ---- read: 9, 1. The numbers that stand beside a name when it is set play no part
-unfoldable pub read_found : Saturator → Named → Told Saturator
-read_found s (Known t) = done_with s 0 (kept s.settings t)
-read_found s Unknown = refused s NoSetting
+unfoldable pub read_found : Saturator → Option Setting → Told Saturator
+read_found s (Some t) = done_with s 0 (kept s.settings t)
+read_found s None = refused s NoSetting
 
 unfoldable pub read : Saturator → List ℕ → Told Saturator
 read s name = unless (settable s.settings) (refused s BadState) (read_found s (named name nought no_crossover))

@@ -1,2 +1,3 @@
--- The multiband saturator: what its calls tell, and the calls.
+-- The multiband saturator: what its calls tell, and what it is as a stage.
 pub mod Calls
+pub mod AsStage

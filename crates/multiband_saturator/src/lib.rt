@@ -1,11 +1,9 @@
-// The multiband saturator: its state and its calls.
+// The multiband saturator: its state, its making, and what it is as a stage.
 #![tactic(auto)]
 
-mod calls;
-mod samples;
+mod as_stage;
+mod making;
 
-use answer::Answer;
-pub use calls::{block, make, read, reset, set, set_typed};
 use multiband_saturator_sample::Registers;
 use multiband_saturator_settings::Settings;
 pub use multiband_saturator_settings::{Band, Crossover, Frequency, Setting};
@@ -16,11 +14,4 @@ pub use multiband_saturator_settings::{Band, Crossover, Frequency, Setting};
 pub struct Saturator {
     pub settings: Settings,
     pub registers: Registers,
-}
-
-// The saturator after a call, and what making, setting, reset and a block answer.
-#[derive(Clone, Copy)]
-pub struct Answered {
-    pub saturator: Saturator,
-    pub answer: Answer,
 }

@@ -10,7 +10,6 @@ use Rattle.multiband_saturator_sample.specs.Bands.{passed}
 use Rattle.multiband_saturator_sample.specs.declared.Split.{Split}
 use Rattle.multiband_saturator_sample.specs.declared.BandRegisters.{BandRegisters}
 use Rattle.multiband_saturator_sample.specs.declared.Registers.{Registers}
-use Rattle.multiband_saturator_sample.specs.declared.Stepped.{Stepped}
 
 -- (low_clean*low_level + mid_clean*mid_level) + high_clean*high_level, nothing fused
 unfoldable pub mixed : Bands → Float → Float → Float → Float
@@ -60,6 +59,3 @@ module _ (s : Settings) (m : Registers) (x : Float) where
 
   unfoldable pub next : Registers
   next = record { lowmid = lowmid; midhigh = midhigh; allpass = allpass; low = low_band; mid = mid_band; high = high_band }
-
-  unfoldable pub step : Stepped
-  step = record { registers = next; output = output }

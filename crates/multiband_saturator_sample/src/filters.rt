@@ -3,41 +3,57 @@ ghost use Rattle.std.specs.Prelude.{◌≡◌};
 ghost use Rattle.multiband_saturator_sample.specs.Filters as Filters;
 
 use crate::{Biquad, Filter, Split};
+use float::{fma32, settled32};
 use multiband_saturator_settings::{Crossover, Numbers};
 
-// The biquad's output: each product but the last fused with its sum.
-fn output(n: Numbers, b: Biquad, x: f32) -> f32
-    ensures { result ≡ Filters.output n b x }
-{
-    let inputs = float::fma32(n.b2, b.x2, float::fma32(n.b0, x, n.b1 * b.x1));
-    float::fma32(n.a2, -b.y2, float::fma32(n.a1, -b.y1, inputs))
-}
+impl Biquad {
+    // Each product but the last fused with its sum.
+    #[tactic(auto, unfolding(crate::specs::Filters::output))]
+    fn output(&self, n: &Numbers, x: f32) -> f32
+        ensures { result ≡ Filters.output n.now self.now x }
+    {
+        let inputs = fma32(n.b2, self.x2, fma32(n.b0, x, n.b1 * self.x1));
+        fma32(n.a2, -self.y2, fma32(n.a1, -self.y1, inputs))
+    }
 
-// The biquad after a sample x: the one place that writes a filter's registers. Every NaN in it is the quiet one.
-fn biquad(n: Numbers, b: Biquad, x: f32) -> Biquad
-    ensures { result ≡ Filters.biquad n b x }
-{
-    Biquad {
-        x1: float::settled32(x),
-        x2: float::settled32(b.x1),
-        y1: float::settled32(output(n, b, x)),
-        y2: float::settled32(b.y1),
+    // A sample x, and what the biquad gives: the one place that writes a filter's registers. Every NaN in it is the
+    // quiet one.
+    #[tactic(auto, unfolding(crate::specs::Filters::biquad))]
+    fn pass(&mut self, n: &Numbers, x: f32) -> f32
+        ensures left { self.new ≡ Filters.biquad n.now self.old x }
+        ensures given { result ≡ self.new.y1 }
+    {
+        let y = settled32(self.output(n, x));
+        *self = Biquad {
+            x1: settled32(x),
+            x2: settled32(self.x1),
+            y1: y,
+            y2: settled32(self.y1),
+        };
+        y
     }
 }
 
-fn filtered(n: Numbers, f: Filter, x: f32) -> Filter
-    ensures { result ≡ Filters.filtered n f x }
-{
-    let first = biquad(n, f.first, x);
-    let second = biquad(n, f.second, first.y1);
-    Filter { first, second }
+impl Filter {
+    #[tactic(auto, unfolding(crate::specs::Filters::filtered))]
+    fn pass(&mut self, n: &Numbers, x: f32) -> f32
+        ensures left { self.new ≡ Filters.filtered n.now self.old x }
+        ensures given { result ≡ Filters.given self.new }
+    {
+        let y = self.first.pass(n, x);
+        self.second.pass(n, y)
+    }
 }
 
-// The two filters at one frequency after a sample x, for any bits.
-pub fn split(c: Crossover, f: Split, x: f32) -> Split
-    ensures { result ≡ Filters.split c f x }
-{
-    let lp = filtered(c.lowpass, f.lp, x);
-    let hp = filtered(c.highpass, f.hp, x);
-    Split { lp, hp }
+impl Split {
+    // A sample x, for any bits, and what the two filters give, the low one's first.
+    #[tactic(auto, unfolding(crate::specs::Filters::split))]
+    pub(crate) fn pass(&mut self, c: &Crossover, x: f32) -> (f32, f32)
+        ensures left { self.new ≡ Filters.split c.now self.old x }
+        ensures given { result ≡ (Filters.given self.new.lp, Filters.given self.new.hp) }
+    {
+        let low = self.lp.pass(&c.lowpass, x);
+        let high = self.hp.pass(&c.highpass, x);
+        (low, high)
+    }
 }

@@ -7,6 +7,7 @@ mod filters;
 ghost use Rattle.std.specs.Prelude.{◌≡◌};
 ghost use Rattle.multiband_saturator_sample.specs.Step as Step;
 
+use float::settled32;
 use multiband_saturator_settings::{Bands, Settings};
 
 // One of a filter's two biquads: its last two inputs and outputs.
@@ -57,45 +58,28 @@ pub struct Registers {
     pub high: BandRegisters,
 }
 
-// What a sample leaves and gives.
-#[derive(Clone, Copy)]
-pub struct Stepped {
-    pub registers: Registers,
-    pub output: f32,
-}
-
 // The bands' outputs at their levels, summed: low and mid, then high.
-fn mix(levels: Bands, low_clean: f32, mid_clean: f32, high_clean: f32) -> f32
-    ensures { result ≡ Step.mixed levels low_clean mid_clean high_clean }
+#[tactic(auto, unfolding(crate::specs::Step::mixed))]
+fn mix(levels: Bands, clean: Bands) -> f32
+    ensures { result ≡ Step.mixed levels clean.low clean.mid clean.high }
 {
-    low_clean * levels.low + mid_clean * levels.mid + high_clean * levels.high
+    clean.low * levels.low + clean.mid * levels.mid + clean.high * levels.high
 }
 
-// What a sample x leaves and gives. Every NaN in it is the quiet one.
-pub fn step(s: Settings, m: Registers, x: f32) -> Stepped
-    ensures { result ≡ Step.step s m x }
-{
-    let lowmid = filters::split(s.low, m.lowmid, x);
-    let low_raw = lowmid.lp.second.y1;
-    let high_side = lowmid.hp.second.y1;
-    let midhigh = filters::split(s.high, m.midhigh, high_side);
-    let allpass = filters::split(s.high, m.allpass, low_raw);
-    let low = allpass.lp.second.y1 + allpass.hp.second.y1;
-    let mid = midhigh.lp.second.y1;
-    let high = midhigh.hp.second.y1;
-    let low_band = bands::passed(s.attack, s.release, s.blocker, s.drives.low, m.low, low);
-    let mid_band = bands::passed(s.attack, s.release, s.blocker, s.drives.mid, m.mid, mid);
-    let high_band = bands::passed(s.attack, s.release, s.blocker, s.drives.high, m.high, high);
-    let output = mix(s.levels, low_band.y1, mid_band.y1, high_band.y1);
-    Stepped {
-        registers: Registers {
-            lowmid: lowmid,
-            midhigh: midhigh,
-            allpass: allpass,
-            low: low_band,
-            mid: mid_band,
-            high: high_band,
-        },
-        output: float::settled32(output),
+impl Registers {
+    // A sample x, and what it gives. Every NaN in it is the quiet one.
+    pub fn step(&mut self, s: &Settings, x: f32) -> f32
+        ensures left { self.new ≡ Step.next s.now self.old x }
+        ensures given { result ≡ Step.output s.now self.old x }
+    {
+        let (low_raw, high_side) = self.lowmid.pass(&s.low, x);
+        let (mid, high) = self.midhigh.pass(&s.high, high_side);
+        let (lp, hp) = self.allpass.pass(&s.high, low_raw);
+        let clean = Bands {
+            low: self.low.pass(s, s.drives.low, lp + hp),
+            mid: self.mid.pass(s, s.drives.mid, mid),
+            high: self.high.pass(s, s.drives.high, high),
+        };
+        settled32(mix(s.levels, clean))
     }
 }

@@ -1,4 +1,3 @@
 -- The settings of the multiband saturator: what they may be, and their names.
 pub mod Ranges
 pub mod Names
-pub mod Places

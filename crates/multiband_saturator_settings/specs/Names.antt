@@ -1,6 +1,6 @@
 -- The names of the settings, as bytes: what a name asks for, and what it reads. Definitions only.
 -- Assumes nothing.
-use Rattle.std.specs.Prelude.{ℕ, List, [], ◌∷◌, Float}
+use Rattle.std.specs.Prelude.{ℕ, List, [], ◌∷◌, Float, Option, Some, None}
 use Rattle.answer.specs.Names.{bytes, pick}
 use Rattle.multiband_saturator_settings.specs.declared.Crossover.{Crossover}
 use Rattle.multiband_saturator_settings.specs.declared.Bands.{Bands}
@@ -10,24 +10,22 @@ use Rattle.multiband_saturator_settings.specs.declared.Frequency.TheVariants as 
 use Rattle.multiband_saturator_settings.specs.declared.Settings.{Settings}
 use Rattle.multiband_saturator_settings.specs.declared.Setting.{Setting}
 use Rattle.multiband_saturator_settings.specs.declared.Setting.TheVariants.{Drive, Level, Freq}
-use Rattle.multiband_saturator_settings.specs.declared.Named.{Named}
-use Rattle.multiband_saturator_settings.specs.declared.Named.TheVariants.{Known, Unknown}
 
 -- the names, each with the setting that it stands for, v being the value and c the worked numbers beside it
-abbrev pub names : Float → Crossover → List (List ℕ × Named)
+abbrev pub names : Float → Crossover → List (List ℕ × Option Setting)
 names v c =
-    (bytes "low_drive", Known (Drive Low v))
-    ∷ (bytes "mid_drive", Known (Drive Mid v))
-    ∷ (bytes "high_drive", Known (Drive High v))
-    ∷ (bytes "low_level", Known (Level Low v))
-    ∷ (bytes "mid_level", Known (Level Mid v))
-    ∷ (bytes "high_level", Known (Level High v))
-    ∷ (bytes "low_freq", Known (Freq frequency.Low v c))
-    ∷ (bytes "high_freq", Known (Freq frequency.High v c))
+    (bytes "low_drive", Some (Drive Low v))
+    ∷ (bytes "mid_drive", Some (Drive Mid v))
+    ∷ (bytes "high_drive", Some (Drive High v))
+    ∷ (bytes "low_level", Some (Level Low v))
+    ∷ (bytes "mid_level", Some (Level Mid v))
+    ∷ (bytes "high_level", Some (Level High v))
+    ∷ (bytes "low_freq", Some (Freq frequency.Low v c))
+    ∷ (bytes "high_freq", Some (Freq frequency.High v c))
     ∷ []
 
-unfoldable pub named : List ℕ → Float → Crossover → Named
-named name v c = pick name (names v c) Unknown
+unfoldable pub named : List ℕ → Float → Crossover → Option Setting
+named name v c = pick name (names v c) None
 
 -- a band's number
 unfoldable pub of_band : Bands → Band → Float

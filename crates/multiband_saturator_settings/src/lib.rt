@@ -4,9 +4,6 @@
 mod names;
 mod ranges;
 
-pub use names::{find, kept};
-pub use ranges::{in_its_range, lent, settable, with_setting, worked};
-
 // A filter's five worked numbers.
 #[repr(C)]
 #[derive(Clone, Copy)]
@@ -80,11 +77,4 @@ pub enum Setting {
     Drive(Band, f32),
     Level(Band, f32),
     Freq(Frequency, f32, Crossover),
-}
-
-// What a name and the numbers beside it ask for.
-#[derive(Clone, Copy)]
-pub enum Named {
-    Known(Setting),
-    Unknown,
 }

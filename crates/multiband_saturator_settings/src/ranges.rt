@@ -1,157 +1,177 @@
 // What a setting may be and what it changes.
 ghost use Rattle.std.specs.Prelude.{◌≡◌};
+ghost use Rattle.answer.specs.Checks.{vetted};
 ghost use Rattle.multiband_saturator_settings.specs.Ranges as Ranges;
 
 use crate::{Band, Bands, Crossover, Frequency, Numbers, Setting, Settings};
-use answer::{both, settled32};
+use answer::{Refusal, finite32, is_smoothing, settled32};
 
 const HIGHEST_DRIVE: f32 = 1.0;
 
 const HIGHEST_LEVEL: f32 = 2.0;
 
-fn is_freq(f: Frequency, v: f32) -> bool
-    ensures { result ≡ Ranges.is_freq f v }
-{
-    match f {
-        Frequency::Low => answer::in_range(50.0, 500.0, v),
-        Frequency::High => answer::in_range(1000.0, 6000.0, v),
+impl Frequency {
+    fn in_its_range(self, v: f32) -> bool
+        ensures { result ≡ Ranges.is_freq self v }
+    {
+        match self {
+            Frequency::Low => answer::in_range(50.0, 500.0, v),
+            Frequency::High => answer::in_range(1000.0, 6000.0, v),
+        }
     }
 }
 
-// Whether t's value is in its range.
-pub fn in_its_range(t: Setting) -> bool
-    ensures { result ≡ Ranges.in_its_range t }
-{
-    match t {
-        Setting::Drive(_, v) => answer::in_range(0.0, HIGHEST_DRIVE, v),
-        Setting::Level(_, v) => answer::in_range(0.0, HIGHEST_LEVEL, v),
-        Setting::Freq(f, v, _) => is_freq(f, v),
+impl Numbers {
+    #[tactic(auto, unfolding(crate::specs::Ranges::finite_numbers))]
+    fn finite(self) -> bool
+        ensures { result ≡ Ranges.finite_numbers self }
+    {
+        finite32(self.b0)
+            && finite32(self.b1)
+            && finite32(self.b2)
+            && finite32(self.a1)
+            && finite32(self.a2)
+    }
+
+    // Every NaN in it the quiet one.
+    fn settled(self) -> Numbers
+        ensures { result ≡ self }
+    {
+        Numbers {
+            b0: settled32(self.b0),
+            b1: settled32(self.b1),
+            b2: settled32(self.b2),
+            a1: settled32(self.a1),
+            a2: settled32(self.a2),
+        }
     }
 }
 
-fn finite_numbers(n: Numbers) -> bool
-    ensures { result ≡ Ranges.finite_numbers n }
-{
-    let a = both(answer::finite32(n.a1), answer::finite32(n.a2));
-    let b = both(answer::finite32(n.b2), a);
-    both(answer::finite32(n.b0), both(answer::finite32(n.b1), b))
-}
+impl Crossover {
+    // Whether its ten numbers are finite.
+    #[tactic(auto, unfolding(crate::specs::Ranges::finite_all))]
+    fn finite(self) -> bool
+        ensures { result ≡ Ranges.finite_all self }
+    {
+        self.lowpass.finite() && self.highpass.finite()
+    }
 
-// Whether a frequency's ten numbers are finite.
-fn finite(c: Crossover) -> bool
-    ensures { result ≡ Ranges.finite_all c }
-{
-    both(finite_numbers(c.lowpass), finite_numbers(c.highpass))
-}
-
-// Whether the worked numbers that t takes are acceptable.
-pub fn worked(t: Setting) -> bool
-    ensures { result ≡ Ranges.worked t }
-{
-    match t {
-        Setting::Drive(_, _) => true,
-        Setting::Level(_, _) => true,
-        Setting::Freq(_, _, c) => finite(c),
+    // Every NaN in it the quiet one.
+    fn settled(self) -> Crossover
+        ensures { result ≡ self }
+    {
+        Crossover {
+            lowpass: self.lowpass.settled(),
+            highpass: self.highpass.settled(),
+        }
     }
 }
 
-fn with_band(n: Bands, b: Band, v: f32) -> Bands
-    ensures { result ≡ Ranges.with_band n b v }
-{
-    let mut next = n;
-    match b {
-        Band::Low => next.low = v,
-        Band::Mid => next.mid = v,
-        Band::High => next.high = v,
+impl Setting {
+    // Whether its value is in its range.
+    pub fn in_its_range(self) -> bool
+        ensures { result ≡ Ranges.in_its_range self }
+    {
+        match self {
+            Setting::Drive(_, v) => answer::in_range(0.0, HIGHEST_DRIVE, v),
+            Setting::Level(_, v) => answer::in_range(0.0, HIGHEST_LEVEL, v),
+            Setting::Freq(f, v, _) => f.in_its_range(v),
+        }
     }
-    next
-}
 
-fn settled_numbers(n: Numbers) -> Numbers
-    ensures { result ≡ n }
-{
-    Numbers {
-        b0: settled32(n.b0),
-        b1: settled32(n.b1),
-        b2: settled32(n.b2),
-        a1: settled32(n.a1),
-        a2: settled32(n.a2),
+    // Whether the worked numbers that it takes are acceptable.
+    #[tactic(auto, unfolding(crate::specs::Ranges::worked))]
+    pub fn worked(self) -> bool
+        ensures { result ≡ Ranges.worked self }
+    {
+        match self {
+            Setting::Freq(_, _, c) => c.finite(),
+            _ => true,
+        }
+    }
+
+    // 3, 4.
+    pub fn vetted(self) -> Result<(), Refusal>
+        ensures { result ≡ vetted (Ranges.in_its_range self) (Ranges.worked self) }
+    {
+        answer::vetted(self.in_its_range(), self.worked())
+    }
+
+    // Every NaN in it the quiet one.
+    fn settled(self) -> Setting
+        ensures { result ≡ self }
+    {
+        match self {
+            Setting::Drive(b, v) => Setting::Drive(b, settled32(v)),
+            Setting::Level(b, v) => Setting::Level(b, settled32(v)),
+            Setting::Freq(f, v, c) => Setting::Freq(f, settled32(v), c.settled()),
+        }
     }
 }
 
-fn settled_crossover(c: Crossover) -> Crossover
-    ensures { result ≡ c }
-{
-    let lowpass = settled_numbers(c.lowpass);
-    let highpass = settled_numbers(c.highpass);
-    Crossover { lowpass, highpass }
-}
+impl Bands {
+    #[tactic(auto, unfolding(crate::specs::Ranges::with_band))]
+    fn put(&mut self, b: Band, v: f32)
+        ensures { self.new ≡ Ranges.with_band self.old b v }
+    {
+        match b {
+            Band::Low => self.low = v,
+            Band::Mid => self.mid = v,
+            Band::High => self.high = v,
+        }
+    }
 
-// t, every NaN in it the quiet one.
-fn settled(t: Setting) -> Setting
-    ensures { result ≡ t }
-{
-    match t {
-        Setting::Drive(b, v) => Setting::Drive(b, settled32(v)),
-        Setting::Level(b, v) => Setting::Level(b, settled32(v)),
-        Setting::Freq(f, v, c) => Setting::Freq(f, settled32(v), settled_crossover(c)),
+    // Whether each band's number is from 0 to the highest.
+    fn each_within(&self, highest: f32) -> bool
+        ensures { result ≡ Ranges.each_within highest self.now }
+    {
+        answer::in_range(0.0, highest, self.low)
+            && answer::in_range(0.0, highest, self.mid)
+            && answer::in_range(0.0, highest, self.high)
     }
 }
 
-// The settings with t taken, its NaNs settled; the others stay as they are.
-pub fn with_setting(mut s: Settings, t: Setting) -> Settings
-    ensures { result ≡ Ranges.with_setting s t }
-{
-    let taken = settled(t);
-    match taken {
-        Setting::Drive(b, v) => s.drives = with_band(s.drives, b, v),
-        Setting::Level(b, v) => s.levels = with_band(s.levels, b, v),
-        Setting::Freq(f, v, c) => match f {
-            Frequency::Low => {
-                s.frequencies.low = v;
-                s.low = c;
+impl Settings {
+    // Takes t, its NaNs settled; the others stay as they are.
+    #[tactic(auto, unfolding(crate::specs::Ranges::with_setting))]
+    pub fn take(&mut self, t: Setting)
+        ensures { self.new ≡ Ranges.with_setting self.old t }
+    {
+        match t.settled() {
+            Setting::Drive(b, v) => self.drives.put(b, v),
+            Setting::Level(b, v) => self.levels.put(b, v),
+            Setting::Freq(Frequency::Low, v, c) => {
+                self.frequencies.low = v;
+                self.low = c;
             }
-            Frequency::High => {
-                s.frequencies.high = v;
-                s.high = c;
+            Setting::Freq(Frequency::High, v, c) => {
+                self.frequencies.high = v;
+                self.high = c;
             }
-        },
+        }
     }
-    s
-}
 
-// Whether the numbers that making is lent are acceptable.
-pub fn lent(low: Crossover, high: Crossover, attack: f32, release: f32, blocker: f32) -> bool
-    ensures { result ≡ Ranges.lent low high attack release blocker }
-{
-    let followers = both(answer::is_smoothing(attack), answer::is_smoothing(release));
-    let smoothing = both(followers, answer::is_smoothing(blocker));
-    both(both(finite(low), finite(high)), smoothing)
-}
+    // Whether the numbers that making is lent are acceptable.
+    #[tactic(auto, unfolding(crate::specs::Ranges::lent))]
+    pub fn lent(&self) -> bool
+        ensures { result ≡ Ranges.lent self.now.low self.now.high self.now.attack self.now.release self.now.blocker }
+    {
+        self.low.finite()
+            && self.high.finite()
+            && is_smoothing(self.attack)
+            && is_smoothing(self.release)
+            && is_smoothing(self.blocker)
+    }
 
-// Whether each band's number is from 0 to the highest.
-fn each_within(highest: f32, n: Bands) -> bool
-    ensures { result ≡ Ranges.each_within highest n }
-{
-    let upper = both(
-        answer::in_range(0.0, highest, n.mid),
-        answer::in_range(0.0, highest, n.high),
-    );
-    both(answer::in_range(0.0, highest, n.low), upper)
-}
-
-// Whether the settings, the rate and the worked numbers could have been set or made.
-pub fn settable(s: Settings) -> bool
-    ensures { result ≡ Ranges.settable s }
-{
-    let bands = both(
-        each_within(HIGHEST_DRIVE, s.drives),
-        each_within(HIGHEST_LEVEL, s.levels),
-    );
-    let meets = both(
-        is_freq(Frequency::Low, s.frequencies.low),
-        is_freq(Frequency::High, s.frequencies.high),
-    );
-    let numbers = lent(s.low, s.high, s.attack, s.release, s.blocker);
-    both(answer::is_rate(s.rate), both(bands, both(meets, numbers)))
+    // Whether the settings, the rate and the worked numbers could have been set or made.
+    pub fn settable(&self) -> bool
+        ensures { result ≡ Ranges.settable self.now }
+    {
+        answer::is_rate(self.rate)
+            && self.drives.each_within(HIGHEST_DRIVE)
+            && self.levels.each_within(HIGHEST_LEVEL)
+            && Frequency::Low.in_its_range(self.frequencies.low)
+            && Frequency::High.in_its_range(self.frequencies.high)
+            && self.lent()
+    }
 }

@@ -1,6 +1,6 @@
 -- The gate's calls: make, load, set, read, reset, block, block with a record, with document 01's refusals in its order. Definitions only.
 -- Assumes nothing.
-use Rattle.std.specs.Prelude.{ℕ, Bool, ◌&&◌, cond, List, eqb, length, Float}
+use Rattle.std.specs.Prelude.{ℕ, Bool, ◌&&◌, cond, List, eqb, length, Float, Option, Some, None}
 use Rattle.answer.specs.Figures.{f32, nought, one}
 use Rattle.answer.specs.Checks.{is_rate, is_smoothing}
 use Rattle.answer.specs.Told.{Told, refused, done, done_with, done_hold, done_passed, unless, where_done}
@@ -19,8 +19,6 @@ use Rattle.noise_gate.specs.declared.Gate.{Gate}
 use Rattle.noise_gate.specs.declared.Before.{Before}
 use Rattle.noise_gate_settings.specs.declared.Setting.{Setting}
 use Rattle.noise_gate_settings.specs.declared.Setting.TheVariants.{Threshold, Ratio, Attack, Release, Hold}
-use Rattle.noise_gate_settings.specs.declared.Named.{Named}
-use Rattle.noise_gate_settings.specs.declared.Named.TheVariants.{Known, Unknown}
 
 abbrev pub gate_of : Settings → Registers → Gate
 gate_of s m = record { settings = s; registers = m }
@@ -85,17 +83,17 @@ set_typed g t =
     (unless (worked t) (refused g BadWorkedNumber)
     (let s = with_setting g.settings t in done_hold (gate_of s g.registers) (hold_told s t).0 (hold_told s t).1)))
 
-unfoldable pub set_found : Gate → Named → Told Gate
-set_found g (Known t) = set_typed g t
-set_found g Unknown = refused g NoSetting
+unfoldable pub set_found : Gate → Option Setting → Told Gate
+set_found g (Some t) = set_typed g t
+set_found g None = refused g NoSetting
 
 unfoldable pub set : Gate → List ℕ → Float → Float → Told Gate
 set g name v w = unless (acceptable g) (refused g BadState) (set_found g (named name v w))
 
 -- ---- read: 9, 1. The numbers that stand beside a name when it is set play no part
-unfoldable pub read_found : Gate → Named → Told Gate
-read_found g (Known t) = done_with g 0 (kept g.settings t)
-read_found g Unknown = refused g NoSetting
+unfoldable pub read_found : Gate → Option Setting → Told Gate
+read_found g (Some t) = done_with g 0 (kept g.settings t)
+read_found g None = refused g NoSetting
 
 unfoldable pub read : Gate → List ℕ → Told Gate
 read g name = unless (acceptable g) (refused g BadState) (read_found g (named name nought nought))

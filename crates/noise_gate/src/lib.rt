@@ -1,14 +1,10 @@
-// The noise gate: its state, and what its calls answer.
+// The noise gate: its state, its making, what it is as a stage, and its block with a record.
 #![tactic(auto)]
 
-mod bounds;
-mod calls;
+mod as_stage;
+mod making;
 mod samples;
 
-use answer::{Answer, Refusal};
-pub use bounds::acceptable;
-pub use calls::{block, block_recorded, load, make, read, reset, set, set_typed};
-use float::Truncation;
 use noise_gate_sample::Registers;
 pub use noise_gate_settings::Setting;
 use noise_gate_settings::Settings;
@@ -43,37 +39,4 @@ pub struct Before {
 pub struct Passed {
     pub count: usize,
     pub quiet: u32,
-}
-
-// What a block answers.
-#[derive(Clone, Copy)]
-pub enum Passage {
-    Done(Passed),
-    Refused(Refusal),
-}
-
-// What a setting answers: of the hold, its samples and the word of their truncation.
-#[derive(Clone, Copy)]
-pub enum Adjustment {
-    Done,
-    Held(Truncation),
-    Refused(Refusal),
-}
-
-#[derive(Clone, Copy)]
-pub struct Answered {
-    pub gate: Gate,
-    pub answer: Answer,
-}
-
-#[derive(Clone, Copy)]
-pub struct Adjusted {
-    pub gate: Gate,
-    pub answer: Adjustment,
-}
-
-#[derive(Clone, Copy)]
-pub struct Ran {
-    pub gate: Gate,
-    pub answer: Passage,
 }

@@ -1,7 +1,7 @@
 // One sample of the noise gate, over any bits: what it moves and what it gives.
 #![tactic(auto)]
 
-ghost use Rattle.std.specs.Prelude.{suc, ◌-◌, min, ltb, cond, ◌||◌, ◌≡◌};
+ghost use Rattle.std.specs.Prelude.{suc, ◌-◌, min, cond, ◌≡◌};
 ghost use Rattle.noise_gate_sample.specs.Figures.{longest_quiet};
 ghost use Rattle.noise_gate_sample.specs.Step as Step;
 
@@ -29,9 +29,6 @@ pub struct Stepped {
 // The state from which the gain is 1.
 const WIDE_OPEN: f32 = 0.999;
 
-// Where the quiet count stops.
-const LONGEST_QUIET: u32 = 4294967295;
-
 // H, the hold in samples, and the word of its truncation.
 pub fn held(s: Settings) -> Truncation
     ensures { result ≡ Step.held s }
@@ -39,49 +36,23 @@ pub fn held(s: Settings) -> Truncation
     float::truncated(s.hold * 0.001 * s.rate)
 }
 
-fn hold_samples(s: Settings) -> u64
-    ensures { result ≡ Step.hold_samples s }
-{
-    let t = held(s);
-    t.whole
-}
-
-fn either(b: bool, x: f32, y: f32) -> f32
-    ensures { result ≡ cond b x y }
-{
-    if b { x } else { y }
-}
-
-// The counter after a sample.
+// The counter after a sample, n before it.
+#[tactic(auto, unfolding(crate::specs::Step::held))]
 fn counted(s: Settings, loud: bool, n: u64) -> u64
     ensures { result ≡ cond loud (Step.hold_samples s) (n - 1) }
 {
     if loud {
-        hold_samples(s)
+        held(s).whole
     } else {
-        if 0 < n { n - 1 } else { 0 }
+        n.saturating_sub(1)
     }
 }
 
-fn aims(loud: bool, n: u64) -> bool
-    ensures { result ≡ (loud || ltb 0 n) }
-{
-    if loud { true } else { 0 < n }
-}
-
-// The quiet count after a sample, n before it.
+// The quiet count after a sample, n before it: it stops at the top.
 fn quieted(loud: bool, n: u32) -> u32
     ensures { result ≡ cond loud 0 (min (suc n) longest_quiet) }
 {
-    if loud {
-        0
-    } else {
-        if n < LONGEST_QUIET {
-            n + 1
-        } else {
-            LONGEST_QUIET
-        }
-    }
+    if loud { 0 } else { n.saturating_add(1) }
 }
 
 fn gain(ratio: f32, state: f32) -> f32
@@ -102,22 +73,22 @@ pub fn step(s: Settings, m: Registers, x: f32) -> Stepped
     let level = common::follower::followed(s.rising, s.falling, m.level, x);
     let loud = s.factor.0 < level;
     let counter = counted(s, loud, m.counter);
-    let aim = aims(loud, counter);
-    let target = either(aim, 1.0, 0.0);
-    let was = m.state;
-    let state = common::toward(
-        either(was < target, s.attack.number, s.release.number),
-        was,
-        target,
-    );
+    let aim = loud || 0 < counter;
+    let target = if aim { 1.0 } else { 0.0 };
+    let c = if m.state < target {
+        s.attack.number
+    } else {
+        s.release.number
+    };
+    let state = common::toward(c, m.state, target);
     Stepped {
         registers: Registers {
             level: float::settled32(level),
             state: float::settled32(state),
-            counter: counter,
+            counter,
             quiet: quieted(loud, m.quiet),
         },
         output: float::settled32(x * gain(s.ratio, state)),
-        aim: aim,
+        aim,
     }
 }

@@ -3,32 +3,20 @@ use mathlib.Core.Path.{◌≡◌, refl, ap}
 use Prim.Native.Nat.{ℕ, zero, suc, ◌-◌, ◌%◌, ◌≤◌, ◌<◌}
 use native.Mathlib.Omega.{arith}
 use mathlib.Core.Bool.{Bool, true, false, cond}
-use lib.IntN.{pos, negsuc, neg_ℤ, ◌-ℤ◌}
+use lib.IntN.{pos, negsuc, neg_ℤ}
 use mir.Syntax.{w16}
-use mir.Val.{to_z, SFits}
+use mir.Val.{to_z, sel, SFits}
 use lib.Dec.{ltb}
 use borrow.Author.Tests.{lt-ltb, le-ltb, ltb-true, ltb-false}
 use Rattle.pcm.specs.Samples.{sample_of, word_of}
 
-less : (k : ℕ) → negsuc 0 -ℤ pos k ≡ negsuc k
-less zero = refl
-less (suc k) = ap negsuc (omega arith)
-
-module _ (w : ℕ) where
-  pub low_word : w < 0x8000 → to_z w16 w ≡ sample_of w
-  unfolding sample_of
-  low_word h = rw (lt-ltb w 0x8000 h)
-
-  module _ (h : 0x8000 ≤ w) (l : w < 0x1_0000) where
-    down : negsuc 0 -ℤ to_z w16 (0xffff - w) ≡ negsuc (0xffff - w)
-    down = rw (lt-ltb (0xffff - w) 0x8000 (omega arith)) (less (0xffff - w))
-
-    pub high_fits : SFits w16 (negsuc 0 -ℤ to_z w16 (0xffff - w))
-    high_fits = rw down (record { sfits = omega arith })
-
-    pub high_word : negsuc 0 -ℤ to_z w16 (0xffff - w) ≡ sample_of w
-    unfolding sample_of
-    high_word = rw (down, le-ltb w 0x8000 h)
+pub signed-word : (w : ℕ) → to_z w16 w ≡ sample_of w
+unfolding sample_of
+signed-word w = go (ltb w 0x8000)
+  where
+    go : (b : Bool) → sel b (pos w) (negsuc (0x1_0000 - suc w)) ≡ cond b (pos w) (negsuc (0xffff - w))
+    go true = refl
+    go false = ap negsuc (omega arith)
 
 pub sample-fits : (w : ℕ) → w < 0x1_0000 → SFits w16 (sample_of w)
 unfolding sample_of

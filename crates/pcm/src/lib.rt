@@ -16,21 +16,11 @@ const LOWEST: u64 = 32768;
 
 const HIGHEST: u64 = 32767;
 
-fn sample_of(word: u16) -> i16
-    ensures { result ≡ Samples.sample_of word }
-{
-    if word < 0x8000 {
-        word as i16
-    } else {
-        -1 - ((0xffff - word) as i16)
-    }
-}
-
 // The number that a word's sample is read as.
 pub fn heard(word: u16) -> f32
     ensures { result ≡ Samples.heard (Samples.sample_of word) }
 {
-    sample_of(word) as f32 / SCALE_IN
+    word.cast_signed() as f32 / SCALE_IN
 }
 
 // A size to the nearest whole number, ties to even, held to most; NaN as 0.

@@ -2,6 +2,7 @@
 -- Assumes nothing.
 mod Settable
 mod Reached
+use Rattle.std.specs.Prelude.{Option, Some, None}
 use mathlib.Core.Path.{◌≡◌, refl, ap}
 use mathlib.Core.Bool.{Bool, true, false}
 use mathlib.Core.List.{List}
@@ -22,10 +23,7 @@ use Rattle.answer.proofs.Told.{unchanged-done, unchanged-test, block-by, block-u
 use Rattle.eq_bands.specs.Bands.{in_its_range, worked, settable}
 use Rattle.eq_bands.specs.Names.{index_of, named}
 use Rattle.eq_bands.specs.declared.Numbers.{Numbers}
-use Rattle.eq_bands.specs.declared.Index.{Index}
-use Rattle.eq_bands.specs.declared.Index.TheVariants as index
 use Rattle.eq_bands.specs.declared.Setting.{Setting}
-use Rattle.eq_bands.specs.declared.Setting.TheVariants as setting
 use Rattle.eq.specs.States.{acceptable, unmade, band_at, delay_at, with_band}
 use Rattle.eq.specs.Calls.{make, set_band, set_found, set, read_found, read, reset, block}
 use Rattle.eq.specs.declared.Equaliser.{Equaliser}
@@ -43,15 +41,15 @@ module _ (e : Equaliser) where
       (unchanged-test (in_its_range value) OutOfRange
       (unchanged-test (worked numbers) BadWorkedNumber (unchanged-done refl))))
 
-  found-unchanged : (t : Setting) → Unchanged e (set_found e t)
+  found-unchanged : (t : Option Setting) → Unchanged e (set_found e t)
   unfolding set_found
-  found-unchanged (setting.Band i value numbers) = band-unchanged i value numbers
-  found-unchanged setting.Unknown = record { kept = λ _. refl }
+  found-unchanged (Some t) = band-unchanged t.band t.value t.numbers
+  found-unchanged None = record { kept = λ _. refl }
 
-  read-unchanged : (i : Index) → Unchanged e (read_found e i)
+  read-unchanged : (i : Option ℕ) → Unchanged e (read_found e i)
   unfolding read_found
-  read-unchanged (index.At i) = unchanged-test (ltb i 16) NoBand (unchanged-done refl)
-  read-unchanged index.Unknown = record { kept = λ _. refl }
+  read-unchanged (Some i) = unchanged-test (ltb i 16) NoBand (unchanged-done refl)
+  read-unchanged None = record { kept = λ _. refl }
 
 pub refusals : Refusals
 unfolding set read reset block
@@ -134,10 +132,10 @@ module _ (e : Equaliser) (a : acceptable e ≡ true) where
   band-accepted : (i : ℕ) (value : Decibels) (numbers : Numbers) → acceptable (set_band e i value numbers).state ≡ true
   band-accepted i value numbers = after-set StillAccepted (λ _. a) i value numbers (set-accepted e i value numbers)
 
-  found-accepted : (t : Setting) → acceptable (set_found e t).state ≡ true
+  found-accepted : (t : Option Setting) → acceptable (set_found e t).state ≡ true
   unfolding set_found
-  found-accepted (setting.Band i value numbers) = band-accepted i value numbers
-  found-accepted setting.Unknown = a
+  found-accepted (Some t) = band-accepted t.band t.value t.numbers
+  found-accepted None = a
 
   named-accepted : (name : List ℕ) (value : Decibels) (numbers : Numbers) → acceptable (set e name value numbers).state ≡ true
   unfolding set

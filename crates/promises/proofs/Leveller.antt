@@ -5,6 +5,7 @@ mod Sample
 mod Carried
 mod Heard
 mod Apart
+use Rattle.std.specs.Prelude.{Option, Some, None}
 use mathlib.Core.Path.{◌≡◌, refl, subst}
 use mathlib.Core.Bool.{true, false, ◌&&◌}
 use mathlib.Core.List.{[], ◌∷◌}
@@ -23,8 +24,6 @@ use Rattle.leveller_settings.specs.Ranges.{in_its_range, worked, settable}
 use Rattle.leveller_settings.specs.Names.{named}
 use Rattle.leveller_settings.specs.declared.Settings.{Settings}
 use Rattle.leveller_settings.specs.declared.Setting.{Setting}
-use Rattle.leveller_settings.specs.declared.Named.{Named}
-use Rattle.leveller_settings.specs.declared.Named.TheVariants.{Known, Unknown}
 use Rattle.leveller.specs.Bounds.{in_bounds, acceptable}
 use Rattle.leveller.specs.Calls as calls
 use Rattle.leveller.specs.Calls.{set_typed, set_found, read_found}
@@ -44,15 +43,15 @@ module _ (l : Leveller) where
   unfolding set_typed
   typed-unchanged t = unchanged-test (acceptable l) BadState (unchanged-test (in_its_range t) OutOfRange (unchanged-test (worked t) BadWorkedNumber (unchanged-done refl)))
 
-  found-unchanged : (n : Named) → Unchanged l (set_found l n)
+  found-unchanged : (n : Option Setting) → Unchanged l (set_found l n)
   unfolding set_found
-  found-unchanged (Known t) = typed-unchanged t
-  found-unchanged Unknown = record { kept = λ _. refl }
+  found-unchanged (Some t) = typed-unchanged t
+  found-unchanged None = record { kept = λ _. refl }
 
-  read-unchanged : (n : Named) → Unchanged l (read_found l n)
+  read-unchanged : (n : Option Setting) → Unchanged l (read_found l n)
   unfolding read_found
-  read-unchanged (Known t) = record { kept = λ _. refl }
-  read-unchanged Unknown = record { kept = λ _. refl }
+  read-unchanged (Some t) = record { kept = λ _. refl }
+  read-unchanged None = record { kept = λ _. refl }
 
 pub refusals : Refusals
 unfolding calls.set calls.read calls.reset calls.block

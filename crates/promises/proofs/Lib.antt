@@ -2,6 +2,7 @@
 mod Order
 mod Apart
 pub mod Shared
+pub mod Answered
 pub mod Lone
 pub mod NoiseGate
 pub mod Program

@@ -3,12 +3,16 @@
 mod Reached
 mod Apart
 mod Hold
+use Rattle.std.specs.Prelude.{Option, Some, None, Result, Ok, Err}
 use mathlib.Core.Path.{◌≡◌, refl, sym, ap}
 use mathlib.Core.Bool.{false, ◌&&◌}
 use lib.Dec.{T}
 use lib.Ieee.{le, lt, whole}
 use lib.Ieee.Fits.{and_i, and_l, and_r}
 use Rattle.answer.specs.Figures.{f32}
+use Rattle.answer.specs.declared.Refusal.{Refusal}
+use Rattle.noise_gate.specs.declared.Passed.{Passed}
+use Rattle.float.specs.declared.Truncation.{Truncation}
 use Rattle.answer.specs.Checks.{is_rate, is_smoothing}
 use Rattle.answer.specs.Told.{Told, Unchanged}
 use Rattle.answer.specs.Blocks.{checked_block}
@@ -19,18 +23,12 @@ use Rattle.answer.proofs.Refusals.{one-to-one, never_nought}
 use Rattle.noise_gate_settings.specs.Ranges.{in_its_range, worked, settable}
 use Rattle.noise_gate_settings.specs.Names.{named}
 use Rattle.noise_gate_settings.specs.declared.Setting.{Setting}
-use Rattle.noise_gate_settings.specs.declared.Named.{Named}
-use Rattle.noise_gate_settings.specs.declared.Named.TheVariants.{Known, Unknown}
 use Rattle.noise_gate.specs.Bounds.{in_bounds, acceptable}
 use Rattle.noise_gate.specs.Answers.{told_set, told_block}
 use Rattle.float.proofs.Exactly.{words}
 use Rattle.noise_gate.specs.Calls as calls
 use Rattle.noise_gate.specs.Calls.{set_typed, set_found, read_found}
 use Rattle.noise_gate.specs.declared.Gate.{Gate}
-use Rattle.noise_gate.specs.declared.Adjustment.{Adjustment}
-use Rattle.noise_gate.specs.declared.Adjustment.TheVariants as adjustment
-use Rattle.noise_gate.specs.declared.Passage.{Passage}
-use Rattle.noise_gate.specs.declared.Passage.TheVariants.{Done, Refused}
 use Rattle.silence.specs.History.{carried}
 use Rattle.silence.proofs.Accepted.{accepts, accepted-hold}
 use Rattle.silence.proofs.Along.{along}
@@ -45,15 +43,15 @@ module _ (g : Gate) where
   unfolding set_typed
   typed-unchanged t = unchanged-test (acceptable g) BadState (unchanged-test (in_its_range t) OutOfRange (unchanged-test (worked t) BadWorkedNumber (unchanged-done refl)))
 
-  found-unchanged : (n : Named) → Unchanged g (set_found g n)
+  found-unchanged : (n : Option Setting) → Unchanged g (set_found g n)
   unfolding set_found
-  found-unchanged (Known t) = typed-unchanged t
-  found-unchanged Unknown = record { kept = λ _. refl }
+  found-unchanged (Some t) = typed-unchanged t
+  found-unchanged None = record { kept = λ _. refl }
 
-  read-unchanged : (n : Named) → Unchanged g (read_found g n)
+  read-unchanged : (n : Option Setting) → Unchanged g (read_found g n)
   unfolding read_found
-  read-unchanged (Known t) = record { kept = λ _. refl }
-  read-unchanged Unknown = record { kept = λ _. refl }
+  read-unchanged (Some t) = record { kept = λ _. refl }
+  read-unchanged None = record { kept = λ _. refl }
 
 pub refusals : Refusals
 unfolding calls.set calls.read calls.reset calls.block
@@ -109,30 +107,30 @@ hold-told = record { typed = hold-said; by_name = hold-named; only = λ g c. (te
 
 -- ---- answers
 module _ {g h : Gate} where
-  setting-back : (a b : Adjustment) → told_set g a ≡ told_set h b → (g ≡ h) × (a ≡ b)
-  setting-back adjustment.Done adjustment.Done e = (ap (λ (t : Told Gate). t.state) e, refl)
-  setting-back adjustment.Done (adjustment.Held k) e = absurd (words.never_nought k.word (sym (ap (λ (t : Told Gate). t.word) e)))
-  setting-back adjustment.Done (adjustment.Refused r) e = absurd (never_nought r (ap (λ (t : Told Gate). t.number) e))
-  setting-back (adjustment.Held k) adjustment.Done e = absurd (words.never_nought k.word (ap (λ (t : Told Gate). t.word) e))
-  setting-back (adjustment.Held k) (adjustment.Held l) e =
+  setting-back : (a b : Result (Option Truncation) Refusal) → told_set g a ≡ told_set h b → (g ≡ h) × (a ≡ b)
+  setting-back (Ok None) (Ok None) e = (ap (λ (t : Told Gate). t.state) e, refl)
+  setting-back (Ok None) (Ok (Some k)) e = absurd (words.never_nought k.word (sym (ap (λ (t : Told Gate). t.word) e)))
+  setting-back (Ok None) (Err r) e = absurd (never_nought r (ap (λ (t : Told Gate). t.number) e))
+  setting-back (Ok (Some k)) (Ok None) e = absurd (words.never_nought k.word (ap (λ (t : Told Gate). t.word) e))
+  setting-back (Ok (Some k)) (Ok (Some l)) e =
       let whole : k.whole ≡ l.whole = ap (λ (t : Told Gate). t.samples) e in
       let word = words.apart k.word l.word (ap (λ (t : Told Gate). t.word) e) in
-      (ap (λ (t : Told Gate). t.state) e, ap adjustment.Held (rw (← whole, ← word)))
-  setting-back (adjustment.Held k) (adjustment.Refused r) e = absurd (never_nought r (ap (λ (t : Told Gate). t.number) e))
-  setting-back (adjustment.Refused q) adjustment.Done e = absurd (never_nought q (sym (ap (λ (t : Told Gate). t.number) e)))
-  setting-back (adjustment.Refused q) (adjustment.Held k) e = absurd (never_nought q (sym (ap (λ (t : Told Gate). t.number) e)))
-  setting-back (adjustment.Refused q) (adjustment.Refused r) e =
-      (ap (λ (t : Told Gate). t.state) e, ap adjustment.Refused (one-to-one q r (ap (λ (t : Told Gate). t.number) e) (ap (λ (t : Told Gate). t.place) e)))
+      (ap (λ (t : Told Gate). t.state) e, ap (λ (t : Truncation). Ok (Some t)) (rw (← whole, ← word)))
+  setting-back (Ok (Some k)) (Err r) e = absurd (never_nought r (ap (λ (t : Told Gate). t.number) e))
+  setting-back (Err q) (Ok None) e = absurd (never_nought q (sym (ap (λ (t : Told Gate). t.number) e)))
+  setting-back (Err q) (Ok (Some k)) e = absurd (never_nought q (sym (ap (λ (t : Told Gate). t.number) e)))
+  setting-back (Err q) (Err r) e =
+      (ap (λ (t : Told Gate). t.state) e, ap Err (one-to-one q r (ap (λ (t : Told Gate). t.number) e) (ap (λ (t : Told Gate). t.place) e)))
 
-  passage-back : (a b : Passage) → told_block g a ≡ told_block h b → (g ≡ h) × (a ≡ b)
-  passage-back (Done p) (Done q) e =
+  passage-back : (a b : Result Passed Refusal) → told_block g a ≡ told_block h b → (g ≡ h) × (a ≡ b)
+  passage-back (Ok p) (Ok q) e =
       let count : p.count ≡ q.count = ap (λ (t : Told Gate). t.count) e in
       let quiet : p.quiet ≡ q.quiet = ap (λ (t : Told Gate). t.quiet) e in
-      (ap (λ (t : Told Gate). t.state) e, ap Done (rw (← count, ← quiet)))
-  passage-back (Done p) (Refused r) e = absurd (never_nought r (ap (λ (t : Told Gate). t.number) e))
-  passage-back (Refused q) (Done p) e = absurd (never_nought q (sym (ap (λ (t : Told Gate). t.number) e)))
-  passage-back (Refused q) (Refused r) e =
-      (ap (λ (t : Told Gate). t.state) e, ap Refused (one-to-one q r (ap (λ (t : Told Gate). t.number) e) (ap (λ (t : Told Gate). t.place) e)))
+      (ap (λ (t : Told Gate). t.state) e, ap Ok (rw (← count, ← quiet)))
+  passage-back (Ok p) (Err r) e = absurd (never_nought r (ap (λ (t : Told Gate). t.number) e))
+  passage-back (Err q) (Ok p) e = absurd (never_nought q (sym (ap (λ (t : Told Gate). t.number) e)))
+  passage-back (Err q) (Err r) e =
+      (ap (λ (t : Told Gate). t.state) e, ap Err (one-to-one q r (ap (λ (t : Told Gate). t.number) e) (ap (λ (t : Told Gate). t.place) e)))
 
 pub answers : Answers
 answers = record {

@@ -2,6 +2,7 @@
 -- Assumes nothing.
 mod Settable
 mod Reached
+use Rattle.std.specs.Prelude.{Option, Some, None}
 use mathlib.Core.Path.{◌≡◌, refl, sym, ap}
 use mathlib.Core.Bool.{Bool, true, false}
 use mathlib.Core.List.{List}
@@ -19,8 +20,6 @@ use Rattle.multiband_saturator_settings.specs.Ranges.{in_its_range, worked, with
 use Rattle.multiband_saturator_settings.specs.Names.{named}
 use Rattle.multiband_saturator_settings.specs.declared.Crossover.{Crossover}
 use Rattle.multiband_saturator_settings.specs.declared.Setting.{Setting}
-use Rattle.multiband_saturator_settings.specs.declared.Named.{Named}
-use Rattle.multiband_saturator_settings.specs.declared.Named.TheVariants.{Known, Unknown}
 use Rattle.multiband_saturator.specs.Calls.{saturator_of, unmade, made, make, set_typed, set_found, set, read_found, read, reset, block}
 use Rattle.multiband_saturator.specs.declared.Saturator.{Saturator}
 use Rattle.promises.specs.Saturator.{Refusals, Unmade, Accepted, Exactly, Kept, Answers}
@@ -33,15 +32,15 @@ module _ (s : Saturator) where
   unfolding set_typed
   typed-unchanged t = unchanged-test (settable s.settings) BadState (unchanged-test (in_its_range t) OutOfRange (unchanged-test (worked t) BadWorkedNumber (unchanged-done refl)))
 
-  found-unchanged : (n : Named) → Unchanged s (set_found s n)
+  found-unchanged : (n : Option Setting) → Unchanged s (set_found s n)
   unfolding set_found
-  found-unchanged (Known t) = typed-unchanged t
-  found-unchanged Unknown = record { kept = λ _. refl }
+  found-unchanged (Some t) = typed-unchanged t
+  found-unchanged None = record { kept = λ _. refl }
 
-  read-unchanged : (n : Named) → Unchanged s (read_found s n)
+  read-unchanged : (n : Option Setting) → Unchanged s (read_found s n)
   unfolding read_found
-  read-unchanged (Known t) = record { kept = λ _. refl }
-  read-unchanged Unknown = record { kept = λ _. refl }
+  read-unchanged (Some t) = record { kept = λ _. refl }
+  read-unchanged None = record { kept = λ _. refl }
 
 pub refusals : Refusals
 unfolding set read reset block
@@ -115,10 +114,10 @@ module _ (s : Saturator) where
       go true false p q = h
       go true true p q = still-settable s.settings t h p q
 
-  found-accepted : (n : Named) → settable s.settings ≡ true → settable (set_found s n).state.settings ≡ true
+  found-accepted : (n : Option Setting) → settable s.settings ≡ true → settable (set_found s n).state.settings ≡ true
   unfolding set_found
-  found-accepted (Known t) h = typed-accepted t h
-  found-accepted Unknown h = h
+  found-accepted (Some t) h = typed-accepted t h
+  found-accepted None h = h
 
 pub accepted : Accepted
 unfolding set

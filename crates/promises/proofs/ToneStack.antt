@@ -2,6 +2,7 @@
 -- Assumes nothing.
 mod Clamped
 mod Reached
+use Rattle.std.specs.Prelude.{Option, Some, None}
 use mathlib.Core.Path.{◌≡◌, refl, ap}
 use mathlib.Core.Bool.{Bool, true, false}
 use mathlib.Core.List.{List}
@@ -19,8 +20,6 @@ use Rattle.tonestack_sample.specs.Models.{number_of, model_of}
 use Rattle.tonestack_sample.specs.Ranges.{is_number, worked, with_setting, settable}
 use Rattle.tonestack_sample.specs.Names.{named}
 use Rattle.tonestack_sample.specs.declared.Setting.{Setting}
-use Rattle.tonestack_sample.specs.declared.Named.{Named}
-use Rattle.tonestack_sample.specs.declared.Named.TheVariants.{Known, Unknown}
 use Rattle.tonestack.specs.Calls.{tone_of, acceptable, unmade, make, set_typed, set_found, set, read_found, read, reset, block}
 use Rattle.tonestack.specs.declared.Tone.{Tone}
 use Rattle.promises.specs.ToneStack.{Refusals, Unmade, Accepted, Exactly, Kept, Answers}
@@ -33,15 +32,15 @@ module _ (t : Tone) where
   unfolding set_typed
   typed-unchanged v = unchanged-test (acceptable t) BadState (unchanged-test (is_number v) OutOfRange (unchanged-test (worked v) BadWorkedNumber (unchanged-done refl)))
 
-  found-unchanged : (n : Named) → Unchanged t (set_found t n)
+  found-unchanged : (n : Option Setting) → Unchanged t (set_found t n)
   unfolding set_found
-  found-unchanged (Known v) = typed-unchanged v
-  found-unchanged Unknown = record { kept = λ _. refl }
+  found-unchanged (Some v) = typed-unchanged v
+  found-unchanged None = record { kept = λ _. refl }
 
-  read-unchanged : (n : Named) → Unchanged t (read_found t n)
+  read-unchanged : (n : Option Setting) → Unchanged t (read_found t n)
   unfolding read_found
-  read-unchanged (Known v) = record { kept = λ _. refl }
-  read-unchanged Unknown = record { kept = λ _. refl }
+  read-unchanged (Some v) = record { kept = λ _. refl }
+  read-unchanged None = record { kept = λ _. refl }
 
 pub refusals : Refusals
 unfolding set read reset block
@@ -104,10 +103,10 @@ module _ (t : Tone) where
       go true false p q = h
       go true true p q = still-settable t.settings v h p q
 
-  found-accepted : (n : Named) → acceptable t ≡ true → acceptable (set_found t n).state ≡ true
+  found-accepted : (n : Option Setting) → acceptable t ≡ true → acceptable (set_found t n).state ≡ true
   unfolding set_found
-  found-accepted (Known v) h = typed-accepted v h
-  found-accepted Unknown h = h
+  found-accepted (Some v) h = typed-accepted v h
+  found-accepted None h = h
 
 pub accepted : Accepted
 unfolding make set acceptable

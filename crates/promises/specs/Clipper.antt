@@ -1,11 +1,11 @@
 -- What the clipper promises, in document 01's words. Statements only.
 -- Assumes nothing.
-use Rattle.std.specs.Prelude.{◌≡◌, List, ℕ, suc, ◌<◌, T, length, get_or, Float}
+use Rattle.std.specs.Prelude.{◌≡◌, List, ℕ, suc, ◌<◌, T, length, get_or, Float, Result, ⊤}
 use Rattle.std.specs.Float.Ieee.{le}
 use Rattle.std.specs.Float.Ieee.Scale.{finite}
 use Rattle.answer.specs.Figures.{one}
+use Rattle.answer.specs.declared.Refusal.{Refusal}
 use Rattle.answer.specs.Told.{told, Unchanged}
-use Rattle.answer.specs.declared.Answer.{Answer}
 use Rattle.clipper.specs.Table.{entry}
 use Rattle.clipper.specs.Process.{minus_one, process}
 use Rattle.clipper.specs.Block as calls
@@ -37,4 +37,4 @@ pub record Output : Type 0 where
 
 -- no two answers tell the same: what a block tells gives its output and its answer back
 pub record Answers : Type 0 where
-  pub answer : (s t : List Float) (a b : Answer) → told s a ≡ told t b → (s ≡ t) × (a ≡ b)
+  pub answer : (s t : List Float) (a b : Result ⊤ Refusal) → told s a ≡ told t b → (s ≡ t) × (a ≡ b)

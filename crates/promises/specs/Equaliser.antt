@@ -1,13 +1,12 @@
 -- What the equaliser promises, in document 01's words. Statements only.
 -- Assumes nothing.
-use Rattle.std.specs.Prelude.{◌≡◌, true, List, [], ◌∷◌, ℕ, T, length, Float}
+use Rattle.std.specs.Prelude.{◌≡◌, true, List, [], ◌∷◌, ℕ, T, length, Float, Result, ⊤}
 use Rattle.std.specs.Float.{binary64}
 use Rattle.std.specs.Float.Ieee.{fits}
 use Rattle.answer.specs.Blocks.{BlockUnchanged}
+use Rattle.answer.specs.declared.Refusal.{Refusal}
 use Rattle.answer.specs.Told.{Told, refused, told, told_read, Unchanged}
-use Rattle.answer.specs.declared.Answer.{Answer}
 use Rattle.answer.specs.declared.Decibels.{Decibels}
-use Rattle.answer.specs.declared.Reading.{Reading}
 use Rattle.answer.specs.declared.Refusal.TheVariants.{BadState}
 use Rattle.eq_bands.specs.declared.Numbers.{Numbers}
 use Rattle.eq_bands.specs.declared.Band.{Band}
@@ -83,5 +82,5 @@ pub record Kept : Type 0 where
 
 -- no two answers tell the same: what a call tells gives its equaliser and its answer back
 pub record Answers : Type 0 where
-  pub answer : (e f : Equaliser) (a b : Answer) → told e a ≡ told f b → (e ≡ f) × (a ≡ b)
-  pub reading : (e f : Equaliser) (a b : Reading) → told_read e a ≡ told_read f b → (e ≡ f) × (a ≡ b)
+  pub answer : (e f : Equaliser) (a b : Result ⊤ Refusal) → told e a ≡ told f b → (e ≡ f) × (a ≡ b)
+  pub reading : (e f : Equaliser) (a b : Result Float Refusal) → told_read e a ≡ told_read f b → (e ≡ f) × (a ≡ b)

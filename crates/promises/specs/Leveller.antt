@@ -1,6 +1,6 @@
 -- What the leveller promises, in document 02's words, and in 01's where it does as the gate. Statements only.
 -- Assumes nothing.
-use Rattle.std.specs.Prelude.{◌≡◌, ◌↔◌, false, List, [], ◌∷◌, ℕ, ◌<◌, T, length, take, get_or, Float}
+use Rattle.std.specs.Prelude.{◌≡◌, ◌↔◌, false, List, [], ◌∷◌, ℕ, ◌<◌, T, length, take, get_or, Float, Result, ⊤}
 use Rattle.std.specs.Float.{binary32}
 use Rattle.std.specs.Float.Ieee.{lt, le, mul, div}
 use Rattle.std.specs.Float.Ieee.Scale.{finite}
@@ -8,12 +8,11 @@ use Rattle.rounding.specs.Casts.{absolute}
 use Rattle.root.specs.Root.{root}
 use Rattle.root.specs.Nearest.{NearestTo}
 use Rattle.answer.specs.Figures.{f32, nought, one}
+use Rattle.answer.specs.declared.Refusal.{Refusal}
 use Rattle.answer.specs.Checks.{in_range, is_refused}
 use Rattle.answer.specs.Names.{bytes}
 use Rattle.answer.specs.Told.{refused, told, told_read, Unchanged}
 use Rattle.answer.specs.Blocks.{BlockUnchanged}
-use Rattle.answer.specs.declared.Answer.{Answer}
-use Rattle.answer.specs.declared.Reading.{Reading}
 use Rattle.answer.specs.declared.Refusal.TheVariants.{BadState}
 use Rattle.leveller_settings.specs.declared.Settings.{Settings}
 use Rattle.leveller_settings.specs.declared.Setting.{Setting}
@@ -116,5 +115,5 @@ pub record Through : Type 0 where
 
 -- no two answers tell the same: what a call tells gives its leveller and its answer back
 pub record Answers : Type 0 where
-  pub answer : (l k : Leveller) (a b : Answer) → told l a ≡ told k b → (l ≡ k) × (a ≡ b)
-  pub reading : (l k : Leveller) (a b : Reading) → told_read l a ≡ told_read k b → (l ≡ k) × (a ≡ b)
+  pub answer : (l k : Leveller) (a b : Result ⊤ Refusal) → told l a ≡ told k b → (l ≡ k) × (a ≡ b)
+  pub reading : (l k : Leveller) (a b : Result Float Refusal) → told_read l a ≡ told_read k b → (l ≡ k) × (a ≡ b)

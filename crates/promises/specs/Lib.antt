@@ -1,5 +1,6 @@
 -- What a reader believes of the stages once their promises are proved: a page a stage.
 pub mod Shared
+pub mod Answered
 pub mod Lone
 pub mod NoiseGate
 pub mod Program

@@ -1,9 +1,8 @@
 -- What a lone follower and a lone DC blocker promise, in document 01's words. Statements only.
 -- Assumes nothing.
-use Rattle.std.specs.Prelude.{◌≡◌, ◌↔◌, Float}
+use Rattle.std.specs.Prelude.{◌≡◌, ◌↔◌, Float, Result, ⊤}
 use Rattle.answer.specs.Told.{refused, told, told_read, Unchanged}
-use Rattle.answer.specs.declared.Answer.{Answer}
-use Rattle.answer.specs.declared.Reading.{Reading}
+use Rattle.answer.specs.declared.Refusal.{Refusal}
 use Rattle.answer.specs.declared.Refusal.TheVariants.{BadState}
 use Rattle.common.specs.Follower as follower
 use Rattle.common.specs.Blocker as blocker
@@ -57,7 +56,7 @@ pub record Accepted : Type 0 where
 
 -- no two answers tell the same: what a call tells gives its state and its answer back
 pub record Answers : Type 0 where
-  pub follower_answer : (f g : Follower) (a b : Answer) → told f a ≡ told g b → (f ≡ g) × (a ≡ b)
-  pub follower_output : (f g : Follower) (a b : Reading) → told_read f a ≡ told_read g b → (f ≡ g) × (a ≡ b)
-  pub blocker_answer : (b c : Blocker) (p q : Answer) → told b p ≡ told c q → (b ≡ c) × (p ≡ q)
-  pub blocker_output : (b c : Blocker) (p q : Reading) → told_read b p ≡ told_read c q → (b ≡ c) × (p ≡ q)
+  pub follower_answer : (f g : Follower) (a b : Result ⊤ Refusal) → told f a ≡ told g b → (f ≡ g) × (a ≡ b)
+  pub follower_output : (f g : Follower) (a b : Result Float Refusal) → told_read f a ≡ told_read g b → (f ≡ g) × (a ≡ b)
+  pub blocker_answer : (b c : Blocker) (p q : Result ⊤ Refusal) → told b p ≡ told c q → (b ≡ c) × (p ≡ q)
+  pub blocker_output : (b c : Blocker) (p q : Result Float Refusal) → told_read b p ≡ told_read c q → (b ≡ c) × (p ≡ q)

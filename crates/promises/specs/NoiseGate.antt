@@ -1,13 +1,14 @@
 -- What the noise gate promises, in document 01's words; what silence means is a page of its own, the crate `silence`. Statements only.
 -- Assumes nothing.
-use Rattle.std.specs.Prelude.{◌≡◌, ◌↔◌, true, not, List, [], ◌∷◌, ℕ, ◌≤◌, T, Float}
+use Rattle.std.specs.Prelude.{◌≡◌, ◌↔◌, true, not, List, [], ◌∷◌, ℕ, ◌≤◌, T, Float, Result, ⊤, Option, Some, None, Ok, Err}
 use Rattle.std.specs.Float.Ieee.{eq}
 use Rattle.float.specs.Truncating.{itself}
 use Rattle.answer.specs.Names.{bytes}
+use Rattle.noise_gate.specs.declared.Passed.{Passed}
+use Rattle.float.specs.declared.Truncation.{Truncation}
+use Rattle.answer.specs.declared.Refusal.{Refusal}
 use Rattle.answer.specs.Told.{Told, refused, told, told_read, Unchanged}
 use Rattle.answer.specs.Blocks.{BlockUnchanged}
-use Rattle.answer.specs.declared.Answer.{Answer}
-use Rattle.answer.specs.declared.Reading.{Reading}
 use Rattle.answer.specs.declared.Refusal.TheVariants.{BadState}
 use Rattle.noise_gate_sample.specs.Step.{hold_product, hold_samples, loud, counter}
 use Rattle.noise_gate_sample.specs.declared.Registers.{Registers}
@@ -19,8 +20,6 @@ use Rattle.noise_gate.specs.Bounds.{in_bounds, acceptable}
 use Rattle.noise_gate.specs.Answers.{told_set, told_block}
 use Rattle.noise_gate.specs.Calls as calls
 use Rattle.noise_gate.specs.declared.Gate.{Gate}
-use Rattle.noise_gate.specs.declared.Adjustment.{Adjustment}
-use Rattle.noise_gate.specs.declared.Passage.{Passage}
 use Rattle.silence.specs.History.{Call, answered, carried, all_f32, InF32, SettingsF32}
 
 -- "No refusal changes a state or an output buffer."
@@ -84,7 +83,7 @@ pub record HoldTold : Type 0 where
 
 -- no two answers tell the same: what a call tells gives its gate and its answer back
 pub record Answers : Type 0 where
-  pub answer : (g h : Gate) (a b : Answer) → told g a ≡ told h b → (g ≡ h) × (a ≡ b)
-  pub setting : (g h : Gate) (a b : Adjustment) → told_set g a ≡ told_set h b → (g ≡ h) × (a ≡ b)
-  pub reading : (g h : Gate) (a b : Reading) → told_read g a ≡ told_read h b → (g ≡ h) × (a ≡ b)
-  pub passage : (g h : Gate) (a b : Passage) → told_block g a ≡ told_block h b → (g ≡ h) × (a ≡ b)
+  pub answer : (g h : Gate) (a b : Result ⊤ Refusal) → told g a ≡ told h b → (g ≡ h) × (a ≡ b)
+  pub setting : (g h : Gate) (a b : Result (Option Truncation) Refusal) → told_set g a ≡ told_set h b → (g ≡ h) × (a ≡ b)
+  pub reading : (g h : Gate) (a b : Result Float Refusal) → told_read g a ≡ told_read h b → (g ≡ h) × (a ≡ b)
+  pub passage : (g h : Gate) (a b : Result Passed Refusal) → told_block g a ≡ told_block h b → (g ≡ h) × (a ≡ b)

@@ -1,10 +1,9 @@
 -- What the multiband saturator promises, in document 01's words. Statements only.
 -- Assumes nothing.
-use Rattle.std.specs.Prelude.{◌≡◌, true, List, [], ◌∷◌, ℕ, Float}
+use Rattle.std.specs.Prelude.{◌≡◌, true, List, [], ◌∷◌, ℕ, Float, Result, ⊤}
 use Rattle.answer.specs.Blocks.{BlockUnchanged}
+use Rattle.answer.specs.declared.Refusal.{Refusal}
 use Rattle.answer.specs.Told.{refused, told, told_read, Unchanged}
-use Rattle.answer.specs.declared.Answer.{Answer}
-use Rattle.answer.specs.declared.Reading.{Reading}
 use Rattle.answer.specs.declared.Refusal.TheVariants.{BadState}
 use Rattle.multiband_saturator_settings.specs.Ranges.{settable}
 use Rattle.multiband_saturator_settings.specs.declared.Crossover.{Crossover}
@@ -66,5 +65,5 @@ pub record Kept : Type 0 where
 
 -- no two answers tell the same: what a call tells gives its saturator and its answer back
 pub record Answers : Type 0 where
-  pub answer : (s t : Saturator) (a b : Answer) → told s a ≡ told t b → (s ≡ t) × (a ≡ b)
-  pub reading : (s t : Saturator) (a b : Reading) → told_read s a ≡ told_read t b → (s ≡ t) × (a ≡ b)
+  pub answer : (s t : Saturator) (a b : Result ⊤ Refusal) → told s a ≡ told t b → (s ≡ t) × (a ≡ b)
+  pub reading : (s t : Saturator) (a b : Result Float Refusal) → told_read s a ≡ told_read t b → (s ≡ t) × (a ≡ b)

@@ -1,11 +1,10 @@
 -- What the tone stack promises, in document 01's words. Statements only.
 -- Assumes nothing.
-use Rattle.std.specs.Prelude.{◌≡◌, true, List, [], ◌∷◌, ℕ, Float}
+use Rattle.std.specs.Prelude.{◌≡◌, true, List, [], ◌∷◌, ℕ, Float, Result, ⊤}
 use Rattle.answer.specs.Blocks.{BlockUnchanged}
+use Rattle.answer.specs.declared.Refusal.{Refusal}
 use Rattle.answer.specs.Checks.{is_rate}
 use Rattle.answer.specs.Told.{refused, told, told_read, Unchanged}
-use Rattle.answer.specs.declared.Answer.{Answer}
-use Rattle.answer.specs.declared.Reading.{Reading}
 use Rattle.answer.specs.declared.Refusal.TheVariants.{BadState}
 use Rattle.common.specs.declared.frequencies.Model.{Model}
 use Rattle.tonestack_sample.specs.Models.{number_of, model_of}
@@ -63,5 +62,5 @@ pub record Kept : Type 0 where
 
 -- no two answers tell the same: what a call tells gives its tone stack and its answer back
 pub record Answers : Type 0 where
-  pub answer : (t u : Tone) (a b : Answer) → told t a ≡ told u b → (t ≡ u) × (a ≡ b)
-  pub reading : (t u : Tone) (a b : Reading) → told_read t a ≡ told_read u b → (t ≡ u) × (a ≡ b)
+  pub answer : (t u : Tone) (a b : Result ⊤ Refusal) → told t a ≡ told u b → (t ≡ u) × (a ≡ b)
+  pub reading : (t u : Tone) (a b : Result Float Refusal) → told_read t a ≡ told_read u b → (t ≡ u) × (a ≡ b)

@@ -1,6 +1,6 @@
 -- Document 01's proved table, P1 to P10: a row for each, what the definitions that the contracts cite give, beside what the paper says. Definitions only.
 -- Assumes nothing.
-use Rattle.std.specs.Prelude.{ℕ, ◌-◌, cond, List, [], ◌∷◌, map}
+use Rattle.std.specs.Prelude.{ℕ, ◌-◌, cond, List, [], ◌∷◌, map, Option, Some, None}
 use Prim.Native.String.{String}
 use Rattle.std.specs.Float.{binary32}
 use Rattle.std.specs.Float.Ieee.{of_bits, to_bits, of_int, to_unsigned, whole, neg, add, mul, sub, div, eq, lt, le}
@@ -21,8 +21,6 @@ use Rattle.noise_gate_sample.specs.declared.Registers.{Registers}
 use Rattle.eq_bands.specs.Bands as Bands
 use Rattle.eq_bands.specs.Bands.{passthrough}
 use Rattle.eq_bands.specs.Names.{all_digits, behind, number_of, after_plus, index_of, setting_at, named}
-use Rattle.eq_bands.specs.declared.Index.{Index}
-use Rattle.eq_bands.specs.declared.Index.TheVariants as index
 use Rattle.eq.specs.States as States
 use Rattle.eq.specs.States.{made, band_at, delay_at, value_at, with_band}
 use Rattle.eq.specs.Calls.{set_band, set_found, set, read_found, read}
@@ -105,9 +103,9 @@ p7 = record {
 }
 
 -- ---- P8: the band that a name says, and 99 where it says none
-unfoldable pub band_said : Index → ℕ
-band_said (index.At i) = i
-band_said index.Unknown = 99
+unfoldable pub band_said : Option ℕ → ℕ
+band_said (Some i) = i
+band_said None = 99
 
 unfoldable pub band : String → ℕ
 unfolding band_said all_digits behind number_of after_plus index_of same

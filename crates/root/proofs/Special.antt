@@ -1,7 +1,7 @@
 -- The root of zeros, infinity, NaN and what is below zero, and what the code's tests say of its argument.
 -- Assumes nothing.
-use Rattle.std.proofs.Common.{◌≡◌, ℕ, zero, suc, ◌+◌, ◌-◌, ◌*◌, ◌/◌, ◌%◌, ◌^◌, ◌<◌, ◌≤◌, Bool, true, false, not, T, ltb, leb, ◌⊎◌, ℤ, pos, sym, refl, ap, ◌∙◌, subst, inl, inr, true≢false, mod-eq_of_lt, zero-lt-suc, eq-zero-or-pos, eq-or-lt_of_le, mul-pos, lt_of_not-le, arith, le→leb, ltb→lt, lt→ltb}
-use lib.Ieee.{Float, nan, inf, fin, Format, binary32, up, down, low, is_nan, of_bits, to_bits, fits, lt, eq}
+use Rattle.std.proofs.Common.{◌≡◌, ℕ, zero, suc, ◌+◌, ◌-◌, ◌*◌, ◌/◌, ◌%◌, ◌^◌, ◌<◌, ◌≤◌, Bool, true, false, T, ltb, leb, ◌⊎◌, ℤ, pos, sym, refl, ap, ◌∙◌, subst, inl, inr, ⊎_elim, true≢false, mod-eq_of_lt, zero-lt-suc, eq-zero-or-pos, eq-or-lt_of_le, mul-pos, lt_of_not-le, arith, le→leb, ltb→lt, lt-ltb, ne_eqb, eq-eqb, ◌||◌}
+use lib.Ieee.{Float, nan, inf, fin, Format, binary32, up, down, low, of_bits, to_bits, fits, lt, le, eq}
 use lib.Ieee.Bits.{is_true, of_bits-to_bits}
 use lib.Ieee.Exact.{HasValue}
 use lib.Ieee.Fits.{up_pos}
@@ -39,41 +39,51 @@ root_below f (fin false zero e) h = absurd (let l = ltb→lt (0 * up e * 1) (0 *
 root_below f (fin true (suc m) e) h = refl
 root_below f (fin false (suc m) e) h = absurd (let l = ltb→lt (suc m * up e * 1) (0 * down e) h in omega arith)
 
--- 0.0 < x, and not x < infinity
-pub root-endless : (x : Float) → lt (of_bits binary32 0) x ≡ true → lt x (of_bits binary32 2139095040) ≡ false → x ≡ root binary32 x
-unfolding root lt
-root-endless x h k = go x (sym (ap (λ (z : Float). lt z x) nought) ∙ h) (sym (ap (λ (z : Float). lt x z) endless) ∙ k)
-  where
-    go : (x : Float) → lt (fin false 0 (pos 0)) x ≡ true → lt x (inf false) ≡ false → x ≡ root binary32 x
-    go nan h k = refl
-    go (inf true) h k = absurd (true≢false (sym h))
-    go (inf false) h k = refl
-    go (fin s m e) h k = absurd (true≢false k)
+-- a size that is not zero
+sized : (m : ℕ) (e : ℤ) → 0 < suc m * up e
+sized m e = mul-pos (zero-lt-suc m) (up_pos e)
 
--- neither 0.0 < x nor x == 0.0
 above : (m : ℕ) (e : ℤ) → lt (fin false 0 (pos 0)) (fin false (suc m) e) ≡ true
 unfolding lt
-above m e = is_true (ltb (0 * 1 * down e) (suc m * up e * 1)) (lt→ltb (0 * 1 * down e) (suc m * up e * 1) (let p : 0 < suc m * up e = mul-pos (zero-lt-suc m) (up_pos e) in omega arith))
+above m e = lt-ltb (0 * 1 * down e) (suc m * up e * 1) (let p = sized m e in omega arith)
 
-none : (x : Float) → lt (fin false 0 (pos 0)) x ≡ false → eq x (fin false 0 (pos 0)) ≡ false → root binary32 x ≡ nan
-unfolding root lt
-none nan h k = refl
-none (inf true) h k = refl
-none (inf false) h k = absurd (true≢false h)
-none (fin s zero e) h k = absurd (true≢false (sym (nought-eq s e) ∙ k))
-none (fin true (suc m) e) h k = refl
-none (fin false (suc m) e) h k = absurd (true≢false (sym (above m e) ∙ h))
+-- 0.0 <= x, and not both 0.0 < x and x < infinity
+pub root-own : (x : Float) → le (of_bits binary32 0) x ≡ true → (lt (of_bits binary32 0) x ≡ false) ⊎ (lt x (of_bits binary32 2139095040) ≡ false) → x ≡ root binary32 x
+unfolding root lt le eq
+root-own x h k = go x (sym (ap (λ (z : Float). le z x) nought) ∙ h) (⊎_elim (λ e. inl (sym (ap (λ (z : Float). lt z x) nought) ∙ e)) (λ e. inr (sym (ap (λ (z : Float). lt x z) endless) ∙ e)) k)
+  where
+    go : (x : Float) → le (fin false 0 (pos 0)) x ≡ true → (lt (fin false 0 (pos 0)) x ≡ false) ⊎ (lt x (inf false) ≡ false) → x ≡ root binary32 x
+    go nan h k = absurd (true≢false (sym h))
+    go (inf true) h k = absurd (true≢false (sym h))
+    go (inf false) h k = refl
+    go (fin s zero e) h k = refl
+    go (fin true (suc m) e) h k = absurd (true≢false (sym h ∙ rw (ne_eqb (0 * 1 * down e) (suc m * up e * 1) (λ w. let p = sized m e in omega arith))))
+    go (fin false (suc m) e) h (inl k) = absurd (true≢false (sym (above m e) ∙ k))
+    go (fin false (suc m) e) h (inr k) = absurd (true≢false k)
 
-pub root_none : (x : Float) → lt (of_bits binary32 0) x ≡ false → eq x (of_bits binary32 0) ≡ false → root binary32 x ≡ nan
-root_none x h k = none x (sym (ap (λ (z : Float). lt z x) nought) ∙ h) (sym (ap (λ (z : Float). eq x z) nought) ∙ k)
+le-zero : (s : Bool) (e : ℤ) → le (fin false 0 (pos 0)) (fin s zero e) ≡ true
+unfolding le lt eq
+le-zero true e = rw (eq-eqb (0 * 1 * down e) (0 * up e * 1) (omega arith), eq-eqb (0 * 1 * down e) 0 (omega arith))
+le-zero false e = rw (eq-eqb (0 * 1 * down e) (0 * up e * 1) (omega arith)) (or-true (ltb (0 * 1 * down e) (0 * up e * 1)))
+  where
+    or-true : (b : Bool) → b || true ≡ true
+    or-true true = refl
+    or-true false = refl
+
+-- not 0.0 <= x
+none : (x : Float) → le (fin false 0 (pos 0)) x ≡ false → root binary32 x ≡ nan
+unfolding root le lt eq
+none nan h = refl
+none (inf true) h = refl
+none (inf false) h = absurd (true≢false h)
+none (fin s zero e) h = absurd (true≢false (sym (le-zero s e) ∙ h))
+none (fin true (suc m) e) h = refl
+none (fin false (suc m) e) h = absurd (true≢false (sym (rw (above m e)) ∙ h))
+
+pub root_none : (x : Float) → le (of_bits binary32 0) x ≡ false → root binary32 x ≡ nan
+root_none x h = none x (sym (ap (λ (z : Float). le z x) nought) ∙ h)
 
 -- 0.0 < x and x < infinity
-pub no_nan : (x : Float) → lt (of_bits binary32 0) x ≡ true → T (not (is_nan x))
-unfolding lt is_nan
-no_nan nan h = absurd (true≢false (sym h ∙ ap (λ (z : Float). lt z nan) nought))
-no_nan (inf s) h = tt
-no_nan (fin s m e) h = tt
-
 abbrev Positive : Float → Type 0
 Positive x = (m : ℕ) × (e : ℤ) × (x ≡ fin false m e)
 

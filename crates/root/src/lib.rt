@@ -6,8 +6,6 @@ ghost use Rattle.std.specs.Float.{binary32};
 ghost use Rattle.root.specs.Root as Root;
 ghost use Rattle.root.specs.Steps.{NearestWhole};
 
-const INFINITY: u32 = 0x7f80_0000;
-
 // Digits of an `f32` below its leading one, and the pattern of the least normal value.
 const FRACTION: u64 = 23;
 
@@ -31,11 +29,8 @@ fn guess(b: u32, base: u64) -> u64
     let first = f32::from_bits((b >> 1) + START);
     let second = (first + x / first) * 0.49985;
     let third = (second + x / second) * 0.5;
-    let g = std::num::wrapping_sub_u64(bits::bits32(third) as u64, base);
-    if 0x0200_0000 < g {
-        return NORMAL;
-    }
-    g
+    let g = (bits::bits32(third) as u64).wrapping_sub(base);
+    if g <= 0x0200_0000 { g } else { NORMAL }
 }
 
 // The whole number nearest to the root of n, from any g: q with q - 1/2 < root < q + 1/2.
@@ -91,14 +86,11 @@ fn positive(b: u64) -> f32
 pub fn root(x: f32) -> f32
     ensures { result ≡ Root.root binary32 x }
 {
-    if 0.0 < x {
-        if x < f32::from_bits(INFINITY) {
-            return positive(f32::to_bits(x) as u64);
-        }
-        return x;
+    if 0.0 < x && x < f32::INFINITY {
+        positive(f32::to_bits(x) as u64)
+    } else if 0.0 <= x {
+        x
+    } else {
+        f32::NAN
     }
-    if x == 0.0 {
-        return x;
-    }
-    0.0 / 0.0
 }

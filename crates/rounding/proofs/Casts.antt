@@ -9,7 +9,7 @@ use lib.IntN.{pos}
 use lib.Dec.{T, leb, ltb, eqb, lt→ltb, nltb→le}
 use lib.Arith.{lt→nleb}
 use lib.Pow.{pow-add, pow_pos, pow_mono}
-use lib.Ieee.{Float, nan, inf, fin, Format, binary32, binary64, prec, low, hid, ones, top, up, down, size, round, odd, of_fields, of_bits, to_bits, fits, is_nan, nan_bits, lt, div, to_unsigned}
+use lib.Ieee.{Float, nan, inf, fin, Format, binary32, binary64, prec, low, hid, ones, top, up, down, size, round, odd, of_fields, of_bits, to_bits, fits, is_nan, nan_bits, lt, to_unsigned}
 use lib.Ieee.Bits.{is_false, of_bits-to_bits, nan_bits_is, nan_bits_above}
 use lib.Ieee.Exact.{HasValue}
 use lib.Ieee.Fits.{down_pos}
@@ -160,8 +160,8 @@ narrowed-is (inf s) h k = narrow-inf s
 narrowed-is (fin s m e) h k =
     sym (narrow_bits (to_bits binary64 (fin s m e)) (pattern-finite binary64 (fin s m e) h tt)) ∙ ap narrow (of_bits-to_bits binary64 (fin s m e) h)
 
-pub narrow-nan : (x : Float) → x ≡ nan → div binary32 (of_bits binary32 0) (of_bits binary32 0) ≡ narrow x
-unfolding narrow div of_bits
+pub narrow-nan : (x : Float) → x ≡ nan → nan ≡ narrow x
+unfolding narrow
 narrow-nan x e = sym (ap narrow e)
 
 -- an `f32` stays
@@ -202,9 +202,9 @@ bits-absolute f b =
 pub absolute-is : (f : Format) (x : Float) → T (fits f x) → of_bits f (to_bits f x % top f) ≡ absolute x
 absolute-is f x h = bits-absolute f (to_bits f x) ∙ ap absolute (of_bits-to_bits f x h)
 
-pub absolute-nan : (x : Float) → x ≡ nan → x ≡ absolute x
+pub absolute-nan : (x : Float) → x ≡ nan → nan ≡ absolute x
 unfolding absolute
-absolute-nan x e = e ∙ sym (ap absolute e)
+absolute-nan x e = sym (ap absolute e)
 
 pub absolute-no-nan : (f : Format) (x : Float) → T (fits f x) → T (not (is_nan x)) → T (not (nan_bits f (to_bits f x % top f)))
 absolute-no-nan f x h k =

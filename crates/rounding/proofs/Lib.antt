@@ -37,11 +37,9 @@ pub mod Twice
 pub mod Wider
 pub mod WideSum
 pub mod ByWider
--- Machine words. `Machine` shows that shifts, remainders and counts of zeros on 64 digits compute what `specs/Steps.antt` says.
--- `TwoDigits` and `Words` do so for numbers of two words, in base 2 ^ 62 (any operands) and 2 ^ 64 (the quick way): product, difference, and the top 63 digits.
+-- Machine words. `Machine` shows that shifts, remainders and counts of zeros on 64 or 128 digits compute what `specs/Steps.antt` says.
+-- Its last part is of numbers of two words: their top 63 digits, and one word's number moved to the left by another's shifts.
 pub mod Machine
-pub mod TwoDigits
-pub mod Words
 -- Casts. `narrow`, `absolute` and `to_unsigned` by patterns and tests, each as the code computes it.
 -- The rounding in `narrow` is `Pattern`'s; the others round nothing.
 pub mod Casts

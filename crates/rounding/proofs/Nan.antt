@@ -1,26 +1,21 @@
--- What the tests of the code say of NaN: `x != x`, the quotient 0 / 0, and a bit pattern past the infinity's. Once for any format.
+-- What the tests of the code say of NaN: `is_nan`, and a bit pattern past the infinity's. Once for any format.
 -- Assumes nothing.
 use mathlib.Core.Path.{◌≡◌, refl, sym, ap, ◌∙◌, subst}
 use mathlib.Core.Logic.{◌⊎◌, inl, inr}
-use mathlib.Core.Bool.{true, false, not}
+use mathlib.Core.Bool.{true, not}
 use Prim.Native.Nat.{ℕ, ◌*◌, ◌%◌, ◌<◌, ◌≤◌}
 use lib.Dec.{T}
-use lib.Ieee.{Float, Format, nan, inf, fin, binary32, binary64, is_nan, ne, add, of_bits, nan_bits, div, ones, hid, top}
-use lib.Ieee.Compare.{differs_from_itself, nan_differs}
+use lib.Ieee.{Float, Format, nan, inf, fin, is_nan, add, of_bits, nan_bits, ones, hid, top}
 use lib.Ieee.Bits.{nan_bits_is, nan_bits_above}
 use borrow.Author.Tests.{le-ltb, lt-ltb}
 use Rattle.rounding.specs.Fma.{product, fma}
 
--- x != x held
-pub is-nan : (x : Float) → ne x x ≡ true → x ≡ nan
-is-nan x t = differs_from_itself x (subst T (sym t) tt)
-
--- x != x did not hold
-pub not-nan : (x : Float) → ne x x ≡ false → T (not (is_nan x))
-unfolding ne is_nan
-not-nan nan t = subst T (sym nan_differs ∙ t) tt
-not-nan (inf s) t = tt
-not-nan (fin s m e) t = tt
+-- `is_nan` held
+pub of_nan : (x : Float) → is_nan x ≡ true → x ≡ nan
+unfolding is_nan
+of_nan nan t = refl
+of_nan (inf s) t = absurd (subst T (sym t) tt)
+of_nan (fin s m e) t = absurd (subst T (sym t) tt)
 
 -- an operand of `fma` is a NaN
 pub fma-nan : (f : Format) (x y z : Float) → (x ≡ nan) ⊎ ((y ≡ nan) ⊎ (z ≡ nan)) → fma f x y z ≡ nan
@@ -38,18 +33,6 @@ fma-nan f x y z (inr (inr h)) = ap (λ (w : Float). fma f x y w) h ∙ third (pr
     third nan = refl
     third (inf s) = refl
     third (fin s m e) = refl
-
--- 0.0 / 0.0
-pub quotient : (f : Format) → div f (of_bits f 0) (of_bits f 0) ≡ nan
-unfolding div of_bits
-quotient binary32 = refl
-quotient binary64 = refl
-
-of_nan : (x : Float) → is_nan x ≡ true → x ≡ nan
-unfolding is_nan
-of_nan nan t = refl
-of_nan (inf s) t = absurd (subst T (sym t) tt)
-of_nan (fin s m e) t = absurd (subst T (sym t) tt)
 
 -- a pattern past the infinity's, and one up to it
 pub above : (f : Format) (n : ℕ) → ones f * hid f < n % top f → of_bits f n ≡ nan

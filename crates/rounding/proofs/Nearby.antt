@@ -1,7 +1,7 @@
 -- What an exponent's field says: a finite value or none. `fma` of three normal values whose two terms are taken whole. Assumes nothing.
 use mathlib.Core.Path.{◌≡◌, refl, sym, ap, ◌∙◌, subst}
 use Prim.Native.Nat.{ℕ, zero, suc, ◌+◌, ◌-◌, ◌*◌, ◌/◌, ◌%◌, ◌^◌, ◌≤◌, ◌<◌, min}
-use native.Mathlib.Nat.{mul_assoc, mul_left_comm, mod-eq_of_lt, mod-mod_of_dvd, dvd-mul_right}
+use native.Mathlib.Nat.{mul_assoc, mul_left_comm, mod-mod_of_dvd, dvd-mul_right}
 use native.Mathlib.Omega.{arith}
 use mathlib.Core.Bool.{Bool, true, false, not, cond}
 use lib.Dec.{T, leb, eqb, eqb→eq, not_T}
@@ -145,20 +145,6 @@ module _ (f : Format) (s : Bool) (a m k d q : ℕ) (lo : 2 ^ 62 ≤ m) (hi : m <
     where
       least : (a b : ℕ) → a ≤ b → min a b ≡ a
       least a b h = omega arith
-
--- ---- a difference that did not wrap
-pub unwrapped : (r k x n : ℕ) → (r + k) % 18446744073709551616 ≡ x → r ≤ n → n + k < 18446744073709551616 → x ≡ r + k
-unwrapped r k x n e h l = sym e ∙ mod-eq_of_lt {n = r + k} {m = 18446744073709551616} (omega arith)
-
--- the three tests of the quick way, each on a field less its least value, wrapped, and the gap that they leave
-module _ (f : Format) (a b c g : ℕ) (few : ones f < 2 ^ 63) where
-  pub near_of : (p q r : ℕ) → (p + 1) % 18446744073709551616 ≡ a % top f / hid f → p + 2 ≤ ones f → (q + 1) % 18446744073709551616 ≡ b % top f / hid f → q + 2 ≤ ones f
-      → (r + 62) % 18446744073709551616 ≡ c % top f / hid f → r + 124 ≤ ones f → c % top f / hid f + (low f + 1) ≡ g + (a % top f / hid f + b % top f / hid f) → Near f a b c g
-  near_of p q r x p-le y q-le z r-le e =
-      let x-is = unwrapped p 1 (a % top f / hid f) (ones f) x (omega arith) (omega arith) in
-      let y-is = unwrapped q 1 (b % top f / hid f) (ones f) y (omega arith) (omega arith) in
-      let z-is = unwrapped r 62 (c % top f / hid f) (ones f) z (omega arith) (omega arith) in
-      record { a_some = omega (arith, x-is); a_most = omega (arith, x-is); b_some = omega (arith, y-is); b_most = omega (arith, y-is); c_some = omega (arith, z-is); c_most = omega (arith, z-is); apart = e }
 
 -- ---- a normal value's significand
 pub significand-normal : (f : Format) (a : ℕ) → 1 ≤ a % top f / hid f → hid f + a % hid f ≡ significand (hid f) (a % top f)

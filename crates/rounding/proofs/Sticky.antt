@@ -136,23 +136,3 @@ odd_factor M h i e = go (M % 2) refl
         let y : M ≡ 2 * (M / 2) + 1 = omega arith in
         let x : M * h ≡ 2 * (M / 2 * h) + h = ap (λ (z : ℕ). z * h) y ∙ add-mul (2 * (M / 2)) 1 h ∙ ap (λ (z : ℕ). z + 1 * h) (mul_assoc 2 (M / 2) h) ∙ ap (λ (z : ℕ). 2 * (M / 2 * h) + z) (one-mul h) in
         (y, omega arith)
-
-pub sticky-twice : (M N A g h : ℕ) → 0 < g → Sticky N A g → Sticky M N h → Sticky M A (h * g)
-sticky-twice M N A g h g0 (inl e) (inl f) = inl (sym (mul_assoc M h g) ∙ ap (λ (z : ℕ). z * g) f ∙ e)
-sticky-twice M N A g h g0 (inr (i, e, lo, hi)) (inl f) =
-    let q = odd_factor M h i (f ∙ e) in
-    let m = M / 2 in
-    let a : 2 * (m * h) * g ≡ 2 * m * (h * g) = ap (λ (z : ℕ). z * g) (sym (mul_assoc 2 m h)) ∙ mul_assoc (2 * m) h g in
-    let b : (2 * (m * h) + 2 * h) * g ≡ (2 * m + 2) * (h * g) = ap (λ (z : ℕ). z * g) (ap (λ (z : ℕ). z + 2 * h) (sym (mul_assoc 2 m h)) ∙ sym (add-mul (2 * m) 2 h)) ∙ mul_assoc (2 * m + 2) h g in
-    let l : 2 * (m * h) * g ≤ 2 * i * g = times-le (2 * (m * h)) (2 * i) g (omega (arith, q.1)) in
-    let u : (2 * i + 2) * g ≤ (2 * (m * h) + 2 * h) * g = times-le (2 * i + 2) (2 * (m * h) + 2 * h) g (omega (arith, q.1)) in
-    inr (m, q.0, omega arith, omega arith)
-sticky-twice M N A g h g0 s (inr (i, f, lo, hi)) =
-    let a : 2 * (i * h) * g ≡ 2 * i * (h * g) = ap (λ (z : ℕ). z * g) (sym (mul_assoc 2 i h)) ∙ mul_assoc (2 * i) h g in
-    let b : 2 * (suc i * h) * g ≡ (2 * i + 2) * (h * g) = ap (λ (z : ℕ). z * g) (sym (mul_assoc 2 (suc i) h)) ∙ mul_assoc (2 * suc i) h g ∙ ap (λ (z : ℕ). z * (h * g)) (twice-suc i) in
-    let l : 2 * (i * h) < N = subst (λ (z : ℕ). z < N) (mul_assoc 2 i h) lo in
-    let u : N < 2 * (suc i * h) = subst (λ (z : ℕ). N < z) (ap (λ (z : ℕ). z * h) (sym (twice-suc i)) ∙ mul_assoc 2 (suc i) h) hi in
-    inr (i, f, subst (λ (z : ℕ). z < A) a (over-even N A g (i * h) g0 s l), subst (λ (z : ℕ). A < z) b (under-even N A g (suc i * h) g0 s u))
-  where
-    twice-suc : (x : ℕ) → 2 * suc x ≡ 2 * x + 2
-    twice-suc x = omega arith

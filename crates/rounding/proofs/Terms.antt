@@ -5,14 +5,15 @@ use Prim.Native.Nat.{ℕ, ◌+◌, ◌-◌, ◌*◌, ◌/◌, ◌%◌, ◌^◌, 
 use native.Mathlib.Nat.{le_trans, le_of_eq, lt_of_le_of_lt, mul_comm, mul-one, zero-mul, mul_assoc, mul_left_comm, mul_right_comm, mul-le-mul, add-mul, mul-sub, mul-lt-mul_of_pos_right, mul-pos, mod-lt, eq-zero-or-pos, zero-div, zero-add, add-mod_left, mod-eq_of_lt}
 use native.Mathlib.Omega.{arith}
 use mathlib.Core.Bool.{Bool, true, false, not, cond, beq, true≢false}
-use lib.Dec.{T, leb, eqb, eqb→eq, le→leb, not_T, ltb, ltb→lt, nltb→le}
+use lib.Dec.{T, leb, eqb, eqb→eq, le→leb, not_T}
 use lib.Arith.{le→nltb, lt→nleb}
 use lib.Pow.{pow-add, pow_pos, pow_mono}
-use lib.Ieee.{Float, nan, inf, fin, Format, binary32, binary64, prec, low, hid, ones, top, unlike, sum, add, mul, round, size, of_bits, to_bits, fits, nan_bits, is_nan, lt, neg}
+use lib.Ieee.{Float, nan, inf, fin, Format, binary32, binary64, prec, low, hid, ones, top, unlike, sum, add, mul, round, size, of_bits, to_bits, fits, nan_bits, is_nan}
 use lib.Ieee.Bits.{is_true, is_false, nan_bits_above, of_bits-to_bits}
 use lib.Ieee.Nearest.{closest}
 use lib.Ieee.Scale.{finite}
 use lib.Ieee.Exact.{HasValue}
+use Rattle.std.specs.Float.{float_is_finite}
 use Rattle.rounding.specs.Steps.{Sticky, stick, significand, exponent, pattern}
 use Rattle.rounding.specs.Fma.{product, fma}
 use Rattle.rounding.proofs.Closest.{closest-down}
@@ -212,43 +213,23 @@ no_nan f s b h =
     (le→nltb (ones f * hid f) ((cond s (top f) 0 + b) % top f) (le_trans (le_of_eq (behind-sign f s b h)) h))
 
 -- ---- a test for what is finite
-pub not_finite : (b : Bool) (x : Float) → b ≡ finite x → not b ≡ true → T (not (finite x))
-not_finite b x e h = subst (λ (z : Bool). T z) (sym (ap not (sym e) ∙ h)) tt
+pub not_finite : (x : Float) → float_is_finite x ≡ false → T (not (finite x))
+unfolding float_is_finite
+not_finite nan e = tt
+not_finite (inf s) e = tt
+not_finite (fin s m d) e = absurd (true≢false e)
 
--- a test that a caller took the other way
-pub not-false : (b d : Bool) → b ≡ d → not b ≡ false → T d
-not-false true d e h = subst (λ (z : Bool). T z) e tt
-not-false false d e h = absurd (true≢false h)
-
-pub is_finite : (b : Bool) (x : Float) → b ≡ finite x → not b ≡ false → T (finite x)
-is_finite b x e h = not-false b (finite x) e h
+pub is_finite : (x : Float) → float_is_finite x ≡ true → T (finite x)
+unfolding float_is_finite
+is_finite nan e = absurd (true≢false (sym e))
+is_finite (inf s) e = absurd (true≢false (sym e))
+is_finite (fin s m d) e = tt
 
 pub finite-no-nan : (x : Float) → T (finite x) → T (not (is_nan x))
 unfolding is_nan
 finite-no-nan nan h = absurd h
 finite-no-nan (inf s) h = absurd h
 finite-no-nan (fin s m e) h = tt
-
--- i is the infinity
-pub finite-above : (x i : Float) → i ≡ inf false → lt x i ≡ true → lt (neg i) x ≡ finite x
-unfolding lt neg
-finite-above x i e h = ap (λ (z : Float). lt (neg z) x) e ∙ go x (sym (ap (λ (z : Float). lt x z) e) ∙ h)
-  where
-    go : (x : Float) → lt x (inf false) ≡ true → lt (neg (inf false)) x ≡ finite x
-    go nan h = absurd (true≢false (sym h))
-    go (inf true) h = refl
-    go (inf false) h = absurd (true≢false (sym h))
-    go (fin s m e) h = refl
-
-pub finite-not-below : (x i : Float) → i ≡ inf false → lt x i ≡ false → lt x i ≡ finite x
-unfolding lt
-finite-not-below x i e h = h ∙ go x (sym (ap (λ (z : Float). lt x z) e) ∙ h)
-  where
-    go : (x : Float) → lt x (inf false) ≡ false → false ≡ finite x
-    go nan h = refl
-    go (inf true) h = refl
-    go (inf false) h = refl
-    go (fin s m e) h = absurd (true≢false h)
 
 pub infinity : (f : Format) → of_bits f (ones f * hid f) ≡ inf false
 unfolding of_bits
@@ -321,10 +302,3 @@ round-of-sticky f s a m k d lo hi st =
     fits-62 : (f : Format) → prec f + 1 ≤ 62
     fits-62 binary32 = omega arith
     fits-62 binary64 = omega arith
-
--- a test of two numbers of two digits
-pub less-taken : (b : Bool) (u v : ℕ) → b ≡ ltb u v → b ≡ true → u < v
-less-taken b u v e h = ltb→lt u v (subst (λ (x : Bool). T x) (sym h ∙ e) tt)
-
-pub less-left : (b : Bool) (u v : ℕ) → b ≡ ltb u v → b ≡ false → v ≤ u
-less-left b u v e h = nltb→le u v (subst (λ (x : Bool). T (not x)) (sym h ∙ e) tt)

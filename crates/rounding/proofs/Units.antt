@@ -4,16 +4,16 @@ use mathlib.Core.Path.{◌≡◌, refl, sym, ap, ◌∙◌, subst}
 use Prim.Native.Nat.{ℕ, zero, suc, ◌+◌, ◌-◌, ◌*◌, ◌/◌, ◌%◌, ◌^◌, ◌≤◌, ◌<◌}
 use native.Mathlib.Nat.{lt_of_not-le, not-le_of_lt, le_of_suc-le-suc, zero-mul, mul-one, mul_assoc, mul-lt-mul_of_pos_right, lt_of_mul-lt-mul_right, eq_of_mul-eq-mul_right}
 use native.Mathlib.Omega.{arith}
-use mathlib.Core.Bool.{Bool, false, ◌&&◌, cond}
+use mathlib.Core.Bool.{Bool, ◌&&◌, cond}
 use lib.IntN.{ℤ, pos, negsuc}
 use lib.Dec.{T, leb, ltb, eqb, leb→le, ltb→lt}
 use lib.Pow.{pow-add, pow_pos, pow-lt}
-use lib.Ieee.{Float, nan, inf, fin, Format, binary32, binary64, prec, emax, low, up, down, size, hid, top, round, fits, to_bits, of_bits, le}
+use lib.Ieee.{Float, nan, inf, fin, Format, binary32, binary64, prec, emax, low, up, down, size, hid, top, round, fits, to_bits, of_bits}
 use lib.Ieee.Digits.{Equals}
 use lib.Ieee.Fits.{and_l, and_r, down_pos, round_is, round-fits, two, two-le_pos}
 use lib.Ieee.Exact.{HasValue, units_val, round_exact}
 use lib.Ieee.Nearest.{div_same}
-use lib.Ieee.Order.{drop, kept, round_mono}
+use lib.Ieee.Order.{drop, kept}
 use lib.Ieee.Scale.{overflow}
 use lib.Ieee.Bits.{of_bits-to_bits}
 use Rattle.rounding.proofs.Snap.{snap, snap-same, Rep, pow-part}
@@ -112,10 +112,3 @@ round-own f s m e h =
     unique f (round f s (m * up e) (down e)) (fin s m e) s (m * up e) (down e) (down_pos e) (round-fits f s (m * up e) (down e)) h
     (round_exact f s (m * up e) (down e) g.rep.digits g.rep.shift (down_pos e) g.rep.few (rw i at g.under) (g.is ∙ ap (λ (x : ℕ). x * down e) i))
     (refl, refl)
-
--- ---- against a value that fits
-pub round-le : (f : Format) (a b m : ℕ) (e : ℤ) → 0 < b → T (fits f (fin false m e)) → a * down e ≤ m * up e * b → T (le (round f false a b) (fin false m e))
-round-le f a b m e B h k = subst (λ (x : Float). T (le (round f false a b) x)) (round-own f false m e h) (round_mono f a b (m * up e) (down e) B (down_pos e) k)
-
-pub round-ge : (f : Format) (a b m : ℕ) (e : ℤ) → 0 < b → T (fits f (fin false m e)) → m * up e * b ≤ a * down e → T (le (fin false m e) (round f false a b))
-round-ge f a b m e B h k = subst (λ (x : Float). T (le x (round f false a b))) (round-own f false m e h) (round_mono f (m * up e) (down e) a b (down_pos e) B k)

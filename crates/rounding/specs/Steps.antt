@@ -24,10 +24,6 @@ pattern n e spare d = (e + spare - d) * 2 ^ (62 - spare) + closest n (2 ^ max sp
 unfoldable pub exponent : ℕ → ℕ → ℕ
 exponent p k = cond (eqb p 0) 0 k
 
--- m, and the next odd number from it up where something is left of it
-unfoldable pub stuck : ℕ → ℕ → ℕ
-stuck m rest = cond (eqb rest 0) m (m + (1 - m % 2))
-
 -- Three bit patterns: the factors' exponents are those of normal values, the third term's lies 62 or more inside the range, and its last digit g places above the product's last, so that both terms are whole numbers of the product's last place
 pub record Near (f : Format) (a b c g : ℕ) : Type 0 where
   pub a_some : 1 ≤ a % top f / hid f

@@ -1,5 +1,6 @@
 -- What a gate keeps from call to call. Of a made gate, after any calls: its settings are `Settable`, its registers `Bounded`, and whatever Inv holds at rest with no history and is kept by one sample
 -- holds of its registers and its history. So a promise about samples is proved for one sample, and `along` carries it through the calls. Assumes nothing.
+use Rattle.std.specs.Prelude.{Option, Some, None}
 use mathlib.Core.Path.{◌≡◌}
 use mathlib.Core.Bool.{Bool, true, false, ◌&&◌}
 use mathlib.Core.List.{List, [], ◌∷◌}
@@ -31,8 +32,6 @@ use Rattle.noise_gate_settings.specs.declared.Settings.{Settings}
 use Rattle.noise_gate_sample.specs.declared.Registers.{Registers}
 use Rattle.noise_gate.specs.declared.Gate.{Gate}
 use Rattle.noise_gate_settings.specs.declared.Setting.{Setting}
-use Rattle.noise_gate_settings.specs.declared.Named.{Named}
-use Rattle.noise_gate_settings.specs.declared.Named.TheVariants.{Known, Unknown}
 use Rattle.silence.proofs.Accepted.{F32, Settable, Bounded, made-settable, set-settable, rest-bounded}
 use Rattle.silence.proofs.OneSample.{either, next-bounded}
 
@@ -52,9 +51,9 @@ by P true p q = q tt
 by P false p q = p
 
 -- a name's setting is made of the numbers beside it
-abbrev NamedF32 : Named → Type 0
-NamedF32 (Known t) = T (all_f32 (floats_of (SetTyped t)))
-NamedF32 Unknown = Unit {0}
+abbrev NamedF32 : Option Setting → Type 0
+NamedF32 (Some t) = T (all_f32 (floats_of (SetTyped t)))
+NamedF32 None = Unit {0}
 
 named-f32 : (name : List ℕ) (v w : Float) → T (all_f32 (v ∷ w ∷ [])) → NamedF32 (named name v w)
 unfolding named
@@ -114,10 +113,10 @@ module _ (Inv : Registers → List Sample → Type 0) (first : Inv at_rest []) (
         by Same (worked t) k λ w.
         record { settable = set-settable g.settings t k.settable (and_i (in_its_range t) (worked t) r w, f); bounded = k.bounded; inv = k.inv }
 
-    found-leaves : (n : Named) → NamedF32 n → Same (set_found g n)
+    found-leaves : (n : Option Setting) → NamedF32 n → Same (set_found g n)
     unfolding set_found
-    found-leaves (Known t) f = set-leaves t f
-    found-leaves Unknown f = k
+    found-leaves (Some t) f = set-leaves t f
+    found-leaves None f = k
 
     call-leaves : (c : Call) → T (all_f32 (floats_of c)) → Sound Inv (answered g c).state.settings (answered g c).state.registers (samples_after g c h)
     unfolding answered samples_after set reset

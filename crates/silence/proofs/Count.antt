@@ -1,5 +1,6 @@
 -- The count that a call reports is the number of its samples aimed open, and what a done block writes are their outputs.
 -- Assumes nothing.
+use Rattle.std.specs.Prelude.{Option, Some, None}
 use mathlib.Core.Path.{◌≡◌, refl, ◌∙◌}
 use mathlib.Core.Bool.{Bool, true, false, cond}
 use mathlib.Core.List.{List, [], ◌∷◌}
@@ -21,8 +22,6 @@ use Rattle.noise_gate_settings.specs.declared.Settings.{Settings}
 use Rattle.noise_gate_sample.specs.declared.Registers.{Registers}
 use Rattle.noise_gate.specs.declared.Gate.{Gate}
 use Rattle.noise_gate_settings.specs.declared.Setting.{Setting}
-use Rattle.noise_gate_settings.specs.declared.Named.{Named}
-use Rattle.noise_gate_settings.specs.declared.Named.TheVariants.{Known, Unknown}
 use Rattle.silence.proofs.Along.{by}
 
 one_of : (b : Bool) (n k : ℕ) → more b n + k ≡ n + cond b (suc k) k
@@ -43,8 +42,8 @@ module _ (g : Gate) where
   abbrev Counts : List Sample → Told Gate → Type 0
   Counts new t = t.count ≡ aimed_open (where_done t new [])
 
-  abbrev None : Told Gate → Type 0
-  None t = t.count ≡ 0
+  abbrev CountsNone : Told Gate → Type 0
+  CountsNone t = t.count ≡ 0
 
   block-counts : (xs out : List Float) → Counts (heard g.settings g.registers xs []) (block g xs out).0
   unfolding block aimed_open
@@ -53,20 +52,20 @@ module _ (g : Gate) where
       (λ r. rw (not_done r))
       (λ _ _. omega (arith, count-is g.settings g.registers xs []))
 
-  set-counts : (t : Setting) → None (set_typed g t)
+  set-counts : (t : Setting) → CountsNone (set_typed g t)
   unfolding set_typed
-  set-counts t = by None (acceptable g) refl λ _. by None (in_its_range t) refl λ _. by None (worked t) refl λ _. refl
+  set-counts t = by CountsNone (acceptable g) refl λ _. by CountsNone (in_its_range t) refl λ _. by CountsNone (worked t) refl λ _. refl
 
-  found-counts : (n : Named) → None (set_found g n)
+  found-counts : (n : Option Setting) → CountsNone (set_found g n)
   unfolding set_found
-  found-counts (Known t) = set-counts t
-  found-counts Unknown = refl
+  found-counts (Some t) = set-counts t
+  found-counts None = refl
 
   pub counts : (c : Call) → (answered g c).count ≡ aimed_open (samples_after g c [])
   unfolding answered samples_after set reset aimed_open
   counts (Block xs out) = block-counts xs out
   counts (SetTyped t) = set-counts t
-  counts (Set name v w) = by None (acceptable g) refl λ _. found-counts (named name v w)
+  counts (Set name v w) = by CountsNone (acceptable g) refl λ _. found-counts (named name v w)
   counts Reset = by (Counts []) (acceptable g) refl λ _. refl
 
   pub writes : (xs out : List Float) → (block g xs out).1 ≡ where_done (block g xs out).0 (outputs_of (samples_after g (Block xs out) []) []) out

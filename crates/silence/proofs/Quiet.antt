@@ -1,5 +1,6 @@
 -- W10's count, proved of every made gate and any calls, and of every state that is loaded.
 -- Assumes nothing.
+use Rattle.std.specs.Prelude.{Option, Some, None}
 use mathlib.Core.Path.{◌≡◌, refl, sym, ap, ◌∙◌, subst}
 use mathlib.Core.Logic.{inl, inr}
 use mathlib.Core.Bool.{Bool, true, false, cond}
@@ -26,8 +27,6 @@ use Rattle.silence.specs.History.{Call, Block, SetTyped, Set, Reset, answered, c
 use Rattle.silence.specs.Demand3.{samples_after, history, Loud, NoneLoud, Held, Promised, Each}
 use Rattle.silence.specs.Quiet.{Latest, QuietFor, OneFigure, carried_by, Near, AimsBy, Quiet, Loaded}
 use Rattle.noise_gate_settings.specs.declared.Setting.{Setting}
-use Rattle.noise_gate_settings.specs.declared.Named.{Named}
-use Rattle.noise_gate_settings.specs.declared.Named.TheVariants.{Known, Unknown}
 use Rattle.noise_gate_sample.specs.declared.Registers.{Registers}
 use Rattle.noise_gate.specs.declared.Gate.{Gate}
 use Rattle.noise_gate.specs.declared.Before.{Before}
@@ -148,24 +147,24 @@ aims-by (e ∷ past) p a =
 
 -- ---- what an answer carries
 module _ (g : Gate) where
-  abbrev None : Told Gate → Type 0
-  None t = t.quiet ≡ 0
+  abbrev CarriesNone : Told Gate → Type 0
+  CarriesNone t = t.quiet ≡ 0
 
-  typed-carries : (t : Setting) → None (set_typed g t)
+  typed-carries : (t : Setting) → CarriesNone (set_typed g t)
   unfolding set_typed
-  typed-carries t = by None (acceptable g) refl λ _. by None (in_its_range t) refl λ _. by None (worked t) refl λ _. refl
+  typed-carries t = by CarriesNone (acceptable g) refl λ _. by CarriesNone (in_its_range t) refl λ _. by CarriesNone (worked t) refl λ _. refl
 
-  found-carries : (n : Named) → None (set_found g n)
+  found-carries : (n : Option Setting) → CarriesNone (set_found g n)
   unfolding set_found
-  found-carries (Known t) = typed-carries t
-  found-carries Unknown = refl
+  found-carries (Some t) = typed-carries t
+  found-carries None = refl
 
   carries : (c : Call) → (answered g c).quiet ≡ carried_by c (answered g c)
   unfolding answered set reset block
   carries (Block xs out) = block-by g xs out (λ t. t.0.quiet ≡ carried_by (Block xs out) t.0) (acceptable g) (λ r. rw (not_done r)) (λ _ _. refl)
   carries (SetTyped t) = typed-carries t
-  carries (Set name v w) = by None (acceptable g) refl λ _. found-carries (named name v w)
-  carries Reset = by None (acceptable g) refl λ _. refl
+  carries (Set name v w) = by CarriesNone (acceptable g) refl λ _. found-carries (named name v w)
+  carries Reset = by CarriesNone (acceptable g) refl λ _. refl
 
 -- ---- of every made gate
 pub quiet-counts : Quiet

@@ -1,5 +1,6 @@
 -- No other register, output or count of a gate depends on its quiet count, and demand 3 holds of it whatever that is.
 -- Assumes nothing.
+use Rattle.std.specs.Prelude.{Option, Some, None, Result, Ok, Err, ⊤}
 use mathlib.Core.Path.{◌≡◌, refl, sym, ap, ◌∙◌, subst}
 use mathlib.Core.Bool.{Bool, true, false}
 use mathlib.Core.List.{List, [], ◌∷◌}
@@ -11,8 +12,7 @@ use Rattle.fold.specs.Fold.{more, state_after, out_after, count_after}
 use Rattle.answer.specs.Checks.{check_block}
 use Rattle.answer.specs.Told.{Told, unless, where_done}
 use Rattle.answer.specs.Blocks.{passing, checked_block}
-use Rattle.answer.specs.declared.Check.{Check}
-use Rattle.answer.specs.declared.Check.TheVariants.{Accepted, Refused}
+use Rattle.answer.specs.declared.Refusal.{Refusal}
 use Rattle.noise_gate_sample.specs.Step.{level, loud, counter, aim, target, state, gain, output, quiet, next}
 use Rattle.noise_gate_settings.specs.Ranges.{in_its_range, worked}
 use Rattle.noise_gate_settings.specs.Names.{named}
@@ -23,8 +23,6 @@ use Rattle.silence.specs.Demand3.{samples_after, history, left_at, aimed_open, o
 use Rattle.silence.specs.Quiet.{with_quiet, but_quiet, Unheard, Stays}
 use Rattle.noise_gate_settings.specs.declared.Settings.{Settings}
 use Rattle.noise_gate_settings.specs.declared.Setting.{Setting}
-use Rattle.noise_gate_settings.specs.declared.Named.{Named}
-use Rattle.noise_gate_settings.specs.declared.Named.TheVariants.{Known, Unknown}
 use Rattle.noise_gate_sample.specs.declared.Registers.{Registers}
 use Rattle.noise_gate.specs.declared.Gate.{Gate}
 
@@ -80,12 +78,12 @@ module _ (g : Gate) (n : ℕ) where
   abbrev Both : Told Gate × List Float → Told Gate × List Float → Type 0
   Both t u = Same t.0 u.0 × (t.1 ≡ u.1)
 
-  checks-same : (xs out : List Float) (c : Check) → Both (passing g out (ran g.settings g.registers xs) c) (passing other out (ran g.settings (quietly n g.registers) xs) c)
-  checks-same xs out Accepted =
+  checks-same : (xs out : List Float) (c : Result ⊤ Refusal) → Both (passing g out (ran g.settings g.registers xs) c) (passing other out (ran g.settings (quietly n g.registers) xs) c)
+  checks-same xs out (Ok _) =
       let s = g.settings in
       let m = g.registers in
       (rw (after_same s m n xs, count_same s m n xs), outputs-same s m n xs)
-  checks-same xs out (Refused r) = (refl, refl)
+  checks-same xs out (Err r) = (refl, refl)
 
   block_same : (xs out : List Float) → Both (block g xs out) (block other xs out)
   unfolding block checked_block acceptable in_bounds
@@ -95,10 +93,10 @@ module _ (g : Gate) (n : ℕ) where
   unfolding set_typed acceptable in_bounds
   typed-same t = by_both Same (acceptable g) refl (by_both Same (in_its_range t) refl (by_both Same (worked t) refl refl))
 
-  found-same : (k : Named) → Same (set_found g k) (set_found other k)
+  found-same : (k : Option Setting) → Same (set_found g k) (set_found other k)
   unfolding set_found
-  found-same (Known t) = typed-same t
-  found-same Unknown = refl
+  found-same (Some t) = typed-same t
+  found-same None = refl
 
   call_same : (c : Call) → Same (answered g c) (answered other c)
   unfolding answered set reset acceptable in_bounds

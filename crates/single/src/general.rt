@@ -74,9 +74,9 @@ fn made(s: bool, n: u64, e: u64) -> f32
     let k = g.k;
     if NORMAL <= k {
         let kept = bits::nearest(g.m, SPARE);
-        return signed(s, bits::least((k - NORMAL << FRACTION) + kept, INFINITY));
+        return signed(s, ((k - NORMAL << FRACTION) + kept).min(INFINITY));
     }
-    signed(s, bits::least(bits::nearest(g.m, SMALLEST - k), INFINITY))
+    signed(s, bits::nearest(g.m, SMALLEST - k).min(INFINITY))
 }
 
 // The two terms, the one with the smaller exponent moved to the other's.

@@ -57,7 +57,7 @@ fn rest(a: f32, b: f32, c: f32, s: f64) -> f32
     let n = f64::to_bits(s);
     let size = n % SIGN;
     let e = size >> FRACTION;
-    if std::num::wrapping_sub_u64(e, LEAST) <= ABOVE {
+    if e.wrapping_sub(LEAST) <= ABOVE {
         let m = n + HALF;
         let x = f32::to_bits(a) as u64 % SIGN32 >> FRACTION32;
         let y = f32::to_bits(b) as u64 % SIGN32 >> FRACTION32;
@@ -76,16 +76,16 @@ fn rest(a: f32, b: f32, c: f32, s: f64) -> f32
 pub fn fma(a: f32, b: f32, c: f32) -> f32
     ensures { result ≡ Spec.fma binary32 a b c }
 {
-    if a != a || b != b || c != c {
-        return 0.0 / 0.0;
+    if a.is_nan() || b.is_nan() || c.is_nan() {
+        return f32::NAN;
     }
     let p = a as f64 * b as f64;
     let s = p + c as f64;
-    if s != s {
-        return 0.0 / 0.0;
+    if s.is_nan() {
+        return f32::NAN;
     }
     let n = f64::to_bits(s);
-    if ABOVE < std::num::wrapping_sub_u64(n % SIGN >> FRACTION, LEAST) {
+    if ABOVE < (n % SIGN >> FRACTION).wrapping_sub(LEAST) {
         if p == 0.0 {
             return a * b + c;
         }

@@ -1,6 +1,6 @@
 -- The tone stack's calls: make, set, read, reset, block, with document 01's refusals in its order. Definitions only.
 -- Assumes nothing.
-use Rattle.std.specs.Prelude.{ℕ, Bool, List, Float}
+use Rattle.std.specs.Prelude.{ℕ, Bool, List, Float, Option, Some, None}
 use Rattle.answer.specs.Figures.{nought, one}
 use Rattle.answer.specs.Checks.{is_rate}
 use Rattle.answer.specs.Told.{Told, refused, done, done_with, unless}
@@ -13,8 +13,6 @@ use Rattle.tonestack_sample.specs.Ranges.{is_number, worked, with_setting, setta
 use Rattle.tonestack_sample.specs.Names.{named, kept}
 use Rattle.tonestack_sample.specs.declared.Settings.{Settings}
 use Rattle.tonestack_sample.specs.declared.Setting.{Setting}
-use Rattle.tonestack_sample.specs.declared.Named.{Named}
-use Rattle.tonestack_sample.specs.declared.Named.TheVariants.{Known, Unknown}
 use Rattle.tonestack_sample.specs.Step.{next, output}
 use Rattle.tonestack_sample.specs.declared.Registers.{Registers}
 use Rattle.tonestack.specs.declared.Tone.{Tone}
@@ -67,17 +65,17 @@ set_typed t v =
     (unless (worked v) (refused t BadWorkedNumber)
     (done (tone_of (with_setting t.settings v) t.registers))))
 
-unfoldable pub set_found : Tone → Named → Told Tone
-set_found t (Known v) = set_typed t v
-set_found t Unknown = refused t NoSetting
+unfoldable pub set_found : Tone → Option Setting → Told Tone
+set_found t (Some v) = set_typed t v
+set_found t None = refused t NoSetting
 
 unfoldable pub set : Tone → List ℕ → Float → Float → Told Tone
 set t name v w = unless (acceptable t) (refused t BadState) (set_found t (named name v w))
 
 -- ---- read: 9, 1. The numbers that stand beside a name when it is set play no part
-unfoldable pub read_found : Tone → Named → Told Tone
-read_found t (Known v) = done_with t 0 (kept t.settings v)
-read_found t Unknown = refused t NoSetting
+unfoldable pub read_found : Tone → Option Setting → Told Tone
+read_found t (Some v) = done_with t 0 (kept t.settings v)
+read_found t None = refused t NoSetting
 
 unfoldable pub read : Tone → List ℕ → Told Tone
 read t name = unless (acceptable t) (refused t BadState) (read_found t (named name nought nought))

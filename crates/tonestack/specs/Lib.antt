@@ -1,2 +1,3 @@
--- The tone stack's calls.
+-- The tone stack's calls, and what it is as a stage.
 pub mod Calls
+pub mod AsStage

@@ -1,11 +1,9 @@
-// The tone stack: its state and its calls.
+// The tone stack: its state, its making, and what it is as a stage.
 #![tactic(auto)]
 
-mod calls;
-mod samples;
+mod as_stage;
+mod making;
 
-use answer::Answer;
-pub use calls::{block, make, read, reset, set, set_typed};
 pub use tonestack_sample::{Model, Registers, Setting, Settings};
 
 // What a host sets, and what a sample moves.
@@ -14,11 +12,4 @@ pub use tonestack_sample::{Model, Registers, Setting, Settings};
 pub struct Tone {
     pub settings: Settings,
     pub registers: Registers,
-}
-
-// The tone stack after a call, and what making, setting, reset and a block answer.
-#[derive(Clone, Copy)]
-pub struct Answered {
-    pub tone: Tone,
-    pub answer: Answer,
 }

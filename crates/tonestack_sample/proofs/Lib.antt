@@ -1,3 +1,2 @@
--- The models' numbers; the alphas worked out once.
+-- What is a number.
 pub mod Numbers
-pub mod Once

@@ -1,14 +1,19 @@
--- The model of a number past 2 is Flat.
+-- A number is what equals itself.
 -- Assumes nothing.
 use mathlib.Core.Path.{◌≡◌, refl}
-use Prim.Native.Nat.{ℕ, zero, suc}
-use Rattle.tonestack_sample.specs.Models.{model_of}
-use Rattle.common.specs.declared.frequencies.Model.TheVariants.{Flat}
+use mathlib.Core.Bool.{Bool, true, false, not, ◌||◌}
+use lib.Ieee.{Float, nan, inf, fin, eq, lt, le, is_nan}
+use Rattle.std.specs.Prelude.{T}
+use Rattle.std.proofs.lemmas.Float.{le_refl, lt_irrefl}
 
-pub past : (n : ℕ) → (n ≡ 0 → ⊥) → (n ≡ 1 → ⊥) → (n ≡ 2 → ⊥) → Flat ≡ model_of n
-unfolding model_of
-past zero a b c = absurd (a refl)
-past (suc zero) a b c = absurd (b refl)
-past (suc (suc zero)) a b c = absurd (c refl)
-past (suc (suc (suc zero))) a b c = refl
-past (suc (suc (suc (suc n)))) a b c = refl
+either : (a b : Bool) → (T a → ⊥) → T (a || b) → true ≡ b
+either true b none _ = absurd (none tt)
+either false true _ _ = refl
+either false false _ one = absurd one
+
+pub itself : (x : Float) → not (is_nan x) ≡ eq x x
+unfolding eq le is_nan
+itself nan = refl
+itself (inf true) = refl
+itself (inf false) = refl
+itself (fin s m e) = either (lt (fin s m e) (fin s m e)) _ (lt_irrefl (fin s m e)) (le_refl (fin s m e) tt)

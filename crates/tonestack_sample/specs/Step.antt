@@ -12,7 +12,6 @@ use Rattle.tonestack_sample.specs.declared.Settings.{Settings}
 use Rattle.tonestack_sample.specs.Alpha.{alphas_of}
 use Rattle.tonestack_sample.specs.declared.Alphas.{Alphas}
 use Rattle.tonestack_sample.specs.declared.Registers.{Registers}
-use Rattle.tonestack_sample.specs.declared.Stepped.{Stepped}
 
 -- the least gain of a band
 abbrev pub least_gain : Float
@@ -74,9 +73,6 @@ module _ (a : Alphas) (s : Settings) (m : Registers) (input : Float) where
   unfoldable pub next_with : Registers
   next_with = record { dc = dc; bass = bass; treble = treble; presence = presence }
 
-  unfoldable pub step_with : Stepped
-  step_with = record { registers = next_with; output = output_with }
-
 -- ---- the alphas worked out at each sample
 module _ (s : Settings) (m : Registers) (input : Float) where
   unfoldable pub next : Registers
@@ -84,6 +80,3 @@ module _ (s : Settings) (m : Registers) (input : Float) where
 
   unfoldable pub output : Float
   output = output_with (alphas_of s) s m input
-
-  unfoldable pub step : Stepped
-  step = step_with (alphas_of s) s m input

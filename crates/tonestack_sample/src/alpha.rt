@@ -2,7 +2,7 @@
 ghost use Rattle.std.specs.Prelude.{◌≡◌};
 ghost use Rattle.tonestack_sample.specs.Alpha as Alpha;
 
-use crate::{Alphas, Settings, models};
+use crate::{Alphas, Settings, Tuned, models};
 use common::frequencies;
 
 const PI: f32 = 3.14159265358979323846;
@@ -18,14 +18,28 @@ fn alpha(rate: f32, f: f32) -> f32
     float::settled32(dt / (dt + 1.0 / (2.0 * PI * f)))
 }
 
-pub fn alphas_of(s: Settings) -> Alphas
-    ensures { result ≡ Alpha.alphas_of s }
-{
-    let corners = frequencies::model_corners(models::model_of(s.model));
-    Alphas {
-        dc: alpha(s.rate, DC_CORNER),
-        bass: alpha(s.rate, corners.bass),
-        treble: alpha(s.rate, corners.treble),
-        presence: alpha(s.rate, corners.presence),
+impl Settings {
+    // Kept out of a block's loop, whose stack they would take.
+    #[inline(never)]
+    fn alphas(&self) -> Alphas
+        ensures { result ≡ Alpha.alphas_of self.now }
+    {
+        let corners = frequencies::model_corners(models::model_of(self.model));
+        Alphas {
+            dc: alpha(self.rate, DC_CORNER),
+            bass: alpha(self.rate, corners.bass),
+            treble: alpha(self.rate, corners.treble),
+            presence: alpha(self.rate, corners.presence),
+        }
+    }
+
+    // With the alphas, which are worked out once a block.
+    pub fn tuned(&self) -> Tuned
+        ensures { (result.settings.now ≡ self.now) × (result.alphas ≡ Alpha.alphas_of self.now) }
+    {
+        Tuned {
+            settings: self,
+            alphas: self.alphas(),
+        }
     }
 }

@@ -8,13 +8,8 @@ mod names;
 mod ranges;
 mod step;
 
-pub use alpha::alphas_of;
 use answer::Factor;
 pub use common::frequencies::Model;
-pub use models::number_of;
-pub use names::{find, kept};
-pub use ranges::{is_number, settable, with_setting, worked};
-pub use step::step_with;
 
 // What a host sets. `model` is 0 to 3: Modern, British, American, Flat; `factor` is presence's.
 #[repr(C)]
@@ -38,13 +33,6 @@ pub enum Setting {
     Presence(f32, Factor),
 }
 
-// What a name and the numbers beside it ask for.
-#[derive(Clone, Copy)]
-pub enum Named {
-    Known(Setting),
-    Unknown,
-}
-
 // What a sample moves: the four one-pole filters.
 #[repr(C)]
 #[derive(Clone, Copy)]
@@ -64,9 +52,9 @@ pub struct Alphas {
     pub presence: f32,
 }
 
-// What a sample leaves and gives.
+// What every sample of a block goes through: the settings, and the alphas worked out from them.
 #[derive(Clone, Copy)]
-pub struct Stepped {
-    pub registers: Registers,
-    pub output: f32,
+pub struct Tuned<'a> {
+    pub settings: &'a Settings,
+    pub alphas: Alphas,
 }

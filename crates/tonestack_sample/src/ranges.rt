@@ -1,102 +1,98 @@
 // What a setting may be and what it changes.
 ghost use Rattle.std.specs.Prelude.{◌≡◌};
+ghost use Rattle.answer.specs.Checks.{vetted};
 ghost use Rattle.tonestack_sample.specs.Ranges as Ranges;
 
 use crate::{Setting, Settings};
-use answer::Factor;
+use answer::{Factor, Refusal, settled32};
 
 const HIGHEST_CONTROL: f32 = 2.0;
 
-const LEAST_FACTOR: f32 = 0.5;
-
-const HIGHEST_FACTOR: f32 = 2.0;
-
 const LAST_MODEL: u32 = 3;
 
-fn value(t: Setting) -> f32
-    ensures { result ≡ Ranges.value t }
+fn is_control(v: f32) -> bool
+    ensures { result ≡ Ranges.is_control v }
 {
-    match t {
-        Setting::Bass(v) => v,
-        Setting::Mid(v) => v,
-        Setting::Treble(v) => v,
-        Setting::Presence(v, _) => v,
-    }
+    answer::in_range(0.0, HIGHEST_CONTROL, v)
 }
 
-// Whether t's value is a number: NaN alone differs from itself.
-pub fn is_number(t: Setting) -> bool
-    ensures { result ≡ Ranges.is_number t }
+fn is_factor(k: Factor) -> bool
+    ensures { result ≡ Ranges.is_factor k }
 {
-    let v = value(t);
-    v == v
-}
-
-// Whether the worked number that t takes is acceptable.
-pub fn worked(t: Setting) -> bool
-    ensures { result ≡ Ranges.worked t }
-{
-    match t {
-        Setting::Bass(_) => true,
-        Setting::Mid(_) => true,
-        Setting::Treble(_) => true,
-        Setting::Presence(_, k) => answer::in_range(LEAST_FACTOR, HIGHEST_FACTOR, k.0),
-    }
+    answer::in_range(0.5, 2.0, k.0)
 }
 
 // Any NaN as the quiet one.
 fn clamped(v: f32) -> f32
     ensures { result ≡ Ranges.clamped v }
 {
-    if v < 0.0 {
-        return 0.0;
+    settled32(v.clamp(0.0, HIGHEST_CONTROL))
+}
+
+impl Setting {
+    #[tactic(auto, unfolding(crate::specs::Ranges::value))]
+    fn value(self) -> f32
+        ensures { result ≡ Ranges.value self }
+    {
+        match self {
+            Setting::Bass(v) | Setting::Mid(v) | Setting::Treble(v) | Setting::Presence(v, _) => v,
+        }
     }
-    if HIGHEST_CONTROL < v {
-        HIGHEST_CONTROL
-    } else {
-        float::settled32(v)
+
+    // Whether its value is a number.
+    pub fn is_number(self) -> bool
+        ensures { result ≡ Ranges.is_number self }
+    {
+        !self.value().is_nan()
+    }
+
+    // Whether the worked number that it takes is acceptable.
+    #[tactic(auto, unfolding(crate::specs::Ranges::worked))]
+    pub fn worked(self) -> bool
+        ensures { result ≡ Ranges.worked self }
+    {
+        match self {
+            Setting::Presence(_, k) => is_factor(k),
+            _ => true,
+        }
+    }
+
+    // 3, 4.
+    pub fn vetted(self) -> Result<(), Refusal>
+        ensures { result ≡ vetted (Ranges.is_number self) (Ranges.worked self) }
+    {
+        answer::vetted(self.is_number(), self.worked())
     }
 }
 
-// The settings with t taken, its NaNs settled; the others stay as they are.
-pub fn with_setting(s: Settings, t: Setting) -> Settings
-    ensures { result ≡ Ranges.with_setting s t }
-{
-    let mut n = s;
-    let v = clamped(value(t));
-    match t {
-        Setting::Bass(_) => {
-            n.bass = v;
-        }
-        Setting::Mid(_) => {
-            n.mid = v;
-        }
-        Setting::Treble(_) => {
-            n.treble = v;
-        }
-        Setting::Presence(_, k) => {
-            n.presence = v;
-            let factor = Factor(float::settled32(k.0));
-            n.factor = factor;
+impl Settings {
+    // Takes t, its value clamped, any NaN as the quiet one; the others stay as they are.
+    #[tactic(auto, unfolding(crate::specs::Ranges::with_setting))]
+    pub fn take(&mut self, t: Setting)
+        ensures { self.new ≡ Ranges.with_setting self.old t }
+    {
+        match t {
+            Setting::Bass(v) => self.bass = clamped(v),
+            Setting::Mid(v) => self.mid = clamped(v),
+            Setting::Treble(v) => self.treble = clamped(v),
+            Setting::Presence(v, k) => {
+                self.presence = clamped(v);
+                self.factor = Factor(settled32(k.0));
+            }
         }
     }
-    n
-}
 
-// Whether the settings, the rate and the worked number could have been set or made.
-pub fn settable(s: Settings) -> bool
-    ensures { result ≡ Ranges.settable s }
-{
-    let k = s.factor;
-    let presence = answer::in_range(0.0, HIGHEST_CONTROL, s.presence);
-    let treble = answer::in_range(0.0, HIGHEST_CONTROL, s.treble);
-    let mid = answer::in_range(0.0, HIGHEST_CONTROL, s.mid);
-    let bass = answer::in_range(0.0, HIGHEST_CONTROL, s.bass);
-    let factor = answer::in_range(LEAST_FACTOR, HIGHEST_FACTOR, k.0);
-    let shelf = answer::both(presence, factor);
-    let high = answer::both(treble, shelf);
-    let middle = answer::both(mid, high);
-    let low = answer::both(bass, middle);
-    let model = answer::both(s.model <= LAST_MODEL, low);
-    answer::both(answer::is_rate(s.rate), model)
+    // Whether the settings, the rate and the worked number could have been set or made.
+    #[tactic(auto, unfolding(crate::specs::Ranges::settable))]
+    pub fn settable(&self) -> bool
+        ensures { result ≡ Ranges.settable self.now }
+    {
+        answer::is_rate(self.rate)
+            && self.model <= LAST_MODEL
+            && is_control(self.bass)
+            && is_control(self.mid)
+            && is_control(self.treble)
+            && is_control(self.presence)
+            && is_factor(self.factor)
+    }
 }

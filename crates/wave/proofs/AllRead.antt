@@ -1,14 +1,16 @@
 -- Every recording of the grammar is read.
 -- Assumes nothing.
-use Prim.Native.Nat.{ℕ, ◌+◌, ◌*◌, ◌%◌, ◌≤◌, ◌<◌}
+use Prim.Native.Nat.{ℕ, ◌+◌, ◌*◌, ◌%◌, ◌≤◌}
 use native.Mathlib.Nat.{add_assoc}
 use native.Mathlib.Omega.{arith}
 use mathlib.Core.Path.{◌≡◌, refl, sym, ◌∙◌, ap}
-use mathlib.Core.Bool.{Bool, true, false, ◌&&◌, true≢false}
+use mathlib.Core.Bool.{true}
 use mathlib.Core.List.{List, [], ◌∷◌, ◌++◌, append_assoc}
 use lib.ListN.{length, take, drop, length-append}
 use lib.Seq.{take_at, drop_at, drop-drop, drop-append_seam}
 use lib.Dec.{leb}
+use Rattle.std.proofs.lemmas.Bool.{and_from}
+use Rattle.std.specs.Prelude.{Option, Some, None}
 use borrow.Author.Tests.{le-leb, eq-eqb}
 use Rattle.answer.specs.Figures.{lowest_rate, highest_rate}
 use Rattle.answer.specs.Names.{bytes, same}
@@ -21,10 +23,6 @@ use Rattle.wave.specs.Grammar.{Chunk, Formed, whole, joined, Each, none, more, I
 use Rattle.wave.proofs.Passed.{Passed, each, unknown-passes, skipped-passes}
 use Rattle.wave.proofs.Turns.{skipped, format, Goes}
 use Rattle.wave.proofs.Trail.{Samples, Trail, here, on, end_of, reads}
-
-both_true : (a b : Bool) → a ≡ true → b ≡ true → (a && b) ≡ true
-both_true true b h k = k
-both_true false b h k = absurd (true≢false (sym h))
 
 length_whole : (c : Chunk) → Formed c → length (whole c) ≡ 8 + length c.body + length c.body % 2
 length_whole c f =
@@ -55,7 +53,7 @@ module _ (s : List ℕ) where
       sym (word32-drop s at 4) ∙ ap (λ (l : List ℕ). word32 l 4) e ∙ sym (word32-drop x 4 0) ∙ ap (λ (l : List ℕ). word32 l 0) (drop_at name (le32 size ++ r) 4 n) ∙ word32-le32 size r
 
   module _ (end : ℕ) where
-    skip : (at rate : ℕ) (c : Chunk) (r : List ℕ) → Passed rate c → drop at s ≡ whole c ++ r → at + length (whole c) ≤ end → Goes s end at rate (at + length (whole c)) rate
+    skip : (at : ℕ) (rate : Option ℕ) (c : Chunk) (r : List ℕ) → Passed rate c → drop at s ≡ whole c ++ r → at + length (whole c) ≤ end → Goes s end at rate (at + length (whole c)) rate
     skip at rate c r k e l =
         let f = k.formed in
         let e' : drop at s ≡ c.name ++ (le32 (length c.body) ++ ((c.body ++ c.pad) ++ r)) = e ∙ append_assoc c.name (le32 (length c.body) ++ (c.body ++ c.pad)) r in
@@ -70,7 +68,7 @@ module _ (s : List ℕ) where
           kind = skipped (rw (names (bytes "fmt ") e') k.no_format) refl;
         }
 
-    along : (cs : List Chunk) (at rate to : ℕ) (r : List ℕ) {goal last : ℕ} → Each (Passed rate) cs → drop at s ≡ joined cs ++ r → to ≡ at + length (joined cs) → to ≤ end → Trail s end goal last to rate → Trail s end goal last at rate
+    along : (cs : List Chunk) (at : ℕ) (rate : Option ℕ) (to : ℕ) (r : List ℕ) {goal : ℕ} {last : Option ℕ} → Each (Passed rate) cs → drop at s ≡ joined cs ++ r → to ≡ at + length (joined cs) → to ≤ end → Trail s end goal last to rate → Trail s end goal last at rate
     along [] at rate to r none e p l t = let q : to ≡ at = omega (arith, p) in rw q at t
     along (c ∷ cs) at rate to r (more k ks) e p l t =
         let e' : drop at s ≡ whole c ++ (joined cs ++ r) = e ∙ append_assoc (whole c) (joined cs) r in
@@ -78,28 +76,28 @@ module _ (s : List ℕ) where
         on (skip at rate c (joined cs ++ r) k e' (omega (arith, p, l, n)))
         (along cs (at + length (whole c)) rate to r ks (further at (whole c) (joined cs ++ r) e') (omega (arith, p, n)) l t)
 
-    formats : (at rate : ℕ) (r : List ℕ) → is_rate rate ≡ true → drop at s ≡ Grammar.format rate ++ r → at + 24 ≤ end → Goes s end at 0 (at + 24) rate
+    formats : (at rate : ℕ) (r : List ℕ) → is_rate rate ≡ true → drop at s ≡ Grammar.format rate ++ r → at + 24 ≤ end → Goes s end at None (at + 24) (Some rate)
     unfolding is_named same word32 word16
     formats at rate r a e l =
         let z : word32 s (at + 4) ≡ 16 = sym (word32-drop s at 4) ∙ ap (λ (x : List ℕ). word32 x 4) e in
         let y : word32 (Grammar.format rate ++ r) 12 ≡ rate = omega arith in
         let k : word32 s (at + 12) ≡ rate = sym (word32-drop s at 12) ∙ ap (λ (x : List ℕ). word32 x 12) e ∙ y in
+        let w : rate ≡ word32 s (at + 8 + 4) = sym k ∙ ap (word32 s) (sym (add_assoc at 8 4)) in
         let f : is_named s at (bytes "fmt ") ≡ true = ap (λ (x : List ℕ). same (take 4 x) (bytes "fmt ")) e in
         record {
           other = ap (λ (x : List ℕ). same (take 4 x) (bytes "data")) e;
           head = omega (arith, l);
           place = rw z (omega arith);
           inside = l;
-          kind = format (rw f) z (sym (format-drop s at 8) ∙ ap (λ (x : List ℕ). is_format x 8) e ∙ good-format rate r) a (sym k ∙ ap (word32 s) (sym (add_assoc at 8 4)));
+          kind = format (rw f) z (sym (format-drop s at 8) ∙ ap (λ (x : List ℕ). is_format x 8) e ∙ good-format rate r) (ap is_rate (sym w) ∙ a) (ap Some w);
         }
 
-    samples : (at rate size : ℕ) (r : List ℕ) → drop at s ≡ bytes "data" ++ (le32 size ++ r) → at + 8 + size ≤ end → 0 < rate → size % 2 ≡ 0 → Samples s end at rate size
+    samples : (at rate size : ℕ) (r : List ℕ) → drop at s ≡ bytes "data" ++ (le32 size ++ r) → at + 8 + size ≤ end → size % 2 ≡ 0 → Samples s end at rate size
     unfolding is_named same
-    samples at rate size r e l k v = record {
+    samples at rate size r e l v = record {
       named = ap (λ (x : List ℕ). same (take 4 x) (bytes "data")) e;
       sized = size-at at (bytes "data") size r refl e;
       inside = l;
-      known = k;
       even = v;
     }
 
@@ -119,16 +117,16 @@ all_read s {rate} {place} {size} w =
     let z : word32 s 4 ≡ w.riff = ap (λ (x : List ℕ). word32 x 4) w.is ∙ omega arith in
     let p = w.at in
     let room : place + size ≤ end_of s = omega (arith, n, z, p, w.in_buffer, w.in_riff) in
-    let a : is_rate rate ≡ true = both_true (leb lowest_rate rate) (leb rate highest_rate) (le-leb _ _ w.lowest) (le-leb _ _ w.highest) in
-    let t₃ : Trail s (end_of s) (12 + b + 24 + c) rate (12 + b + 24 + c) rate = here in
-    let t₂ = along s (end_of s) w.between (12 + b + 24) rate (12 + b + 24 + c) tail (each (λ c k. skipped-passes c rate (omega (arith, w.lowest)) k) w.later) e₂ refl (omega (arith, p, room)) t₃ in
+    let a : is_rate rate ≡ true = and_from (leb lowest_rate rate) (leb rate highest_rate) (le-leb _ _ w.lowest) (le-leb _ _ w.highest) in
+    let t₃ : Trail s (end_of s) (12 + b + 24 + c) (Some rate) (12 + b + 24 + c) (Some rate) = here in
+    let t₂ = along s (end_of s) w.between (12 + b + 24) (Some rate) (12 + b + 24 + c) tail (each (λ c k. skipped-passes c rate k) w.later) e₂ refl (omega (arith, p, room)) t₃ in
     let t₁ = on (formats s (end_of s) (12 + b) rate rest₂ a e₁ (omega (arith, p, room))) t₂ in
-    let t₀ = along s (end_of s) w.before 12 0 (12 + b) rest₁ (each unknown-passes w.first) e₀ refl (omega (arith, p, room)) t₁ in
+    let t₀ = along s (end_of s) w.before 12 None (12 + b) rest₁ (each unknown-passes w.first) e₀ refl (omega (arith, p, room)) t₁ in
     reads record {
       wave = let l : 12 ≤ length s = omega (arith, n) in rw (le-leb 12 (length s) l, ap (λ (x : List ℕ). same (take 4 x) (bytes "RIFF")) w.is, ap (λ (x : List ℕ). same (take 4 (drop 8 x)) (bytes "WAVE")) w.is);
       least = omega (arith, z, p, w.in_riff);
       to = 12 + b + 24 + c;
       place = p;
       trail = t₀;
-      samples = samples s (end_of s) (12 + b + 24 + c) rate size w.rest e₃ (omega (arith, p, room)) (omega (arith, w.lowest)) w.even;
+      samples = samples s (end_of s) (12 + b + 24 + c) rate size w.rest e₃ (omega (arith, p, room)) w.even;
     }

@@ -1,25 +1,21 @@
 -- Only heads count: two buffers that agree before the samples, and are long enough, are read alike.
 -- Assumes nothing.
-use Prim.Native.Nat.{ℕ, zero, suc, ◌+◌, ◌≤◌, ◌<◌}
-use native.Mathlib.Nat.{zero-add, suc-add}
+use Prim.Native.Nat.{ℕ, ◌+◌, ◌≤◌, ◌<◌}
 use native.Mathlib.Omega.{arith}
 use mathlib.Core.Path.{◌≡◌, sym, ◌∙◌, ap}
-use mathlib.Core.List.{List, [], ◌∷◌, ◌++◌}
+use mathlib.Core.List.{List, ◌++◌}
 use lib.ListN.{length, take, drop, get_or, length-append, length-take}
-use lib.Seq.{get_or-take, take-take, take-nil, take-append-le, take_at, length-take-le}
+use lib.Seq.{get_or-take, take-take, take-append-le, take_at, length-take-le}
 use borrow.Author.Tests.{le-leb}
+use Rattle.std.proofs.lemmas.List.{drop-take}
+use Rattle.std.specs.Prelude.{Option, Some}
 use Rattle.answer.specs.Names.{bytes, same}
 use Rattle.words.specs.Words.{word16, word32}
 use Rattle.wave.specs.Answers.{found}
-use Rattle.wave.specs.Reading.{is_named, is_format, is_wave, read}
+use Rattle.wave.specs.Reading.{is_rate, is_named, is_format, is_wave, read}
 use Rattle.wave.proofs.Turns.{Kind, skipped, format, Goes}
 use Rattle.wave.proofs.Trail.{Samples, Trail, here, on, end_of, recording, reads}
 use Rattle.wave.proofs.Inside.{ahead, inside}
-
-pub drop-take : (a k : ℕ) (l : List ℕ) → drop a (take (a + k) l) ≡ take k (drop a l)
-drop-take zero k l = rw (zero-add k)
-drop-take (suc a) k [] = rw (suc-add a k, take-nil k)
-drop-take (suc a) k (x ∷ l) = rw (suc-add a k) (drop-take a k l)
 
 module _ (s t : List ℕ) (p : ℕ) (e : take p s ≡ take p t) where
   byte : (i : ℕ) → i < p → get_or s i 0 ≡ get_or t i 0
@@ -54,7 +50,7 @@ module _ (s t : List ℕ) (p : ℕ) (e : take p s ≡ take p t) where
       let bits = word16-same (at + 14) (omega (arith, h)) in
       cc
 
-  kind : {at rate known : ℕ} → at + 8 + word32 s (at + 4) ≤ p → Kind s at rate known → Kind t at rate known
+  kind : {at : ℕ} {rate known : Option ℕ} → at + 8 + word32 s (at + 4) ≤ p → Kind s at rate known → Kind t at rate known
   kind {at} {rate} h (skipped f k) = skipped (rw (named-same at (bytes "fmt ") (omega (arith, h))) at f) k
   kind {at} {rate} h (format f w b r k) =
       let l : at + 24 ≤ p = omega (arith, h, w) in
@@ -62,10 +58,10 @@ module _ (s t : List ℕ) (p : ℕ) (e : take p s ≡ take p t) where
       (rw (named-same at (bytes "fmt ") (omega (arith, l))) at f)
       (sym (word32-same (at + 4) (omega (arith, l))) ∙ w)
       (sym (format-same (at + 8) (omega (arith, l))) ∙ b)
-      r
-      (k ∙ word32-same (at + 8 + 4) (omega (arith, l)))
+      (ap is_rate (sym (word32-same (at + 8 + 4) (omega (arith, l)))) ∙ r)
+      (k ∙ ap Some (word32-same (at + 8 + 4) (omega (arith, l))))
 
-  going : {end at rate next known : ℕ} (limit : ℕ) → next ≤ p → next ≤ limit → Goes s end at rate next known → Goes t limit at rate next known
+  going : {end at : ℕ} {rate : Option ℕ} {next : ℕ} {known : Option ℕ} (limit : ℕ) → next ≤ p → next ≤ limit → Goes s end at rate next known → Goes t limit at rate next known
   going {at = at} limit h l g =
       let w = word32-same (at + 4) (omega (arith, h, g.place)) in
       record {
@@ -76,16 +72,15 @@ module _ (s t : List ℕ) (p : ℕ) (e : take p s ≡ take p t) where
         kind = kind (omega (arith, h, g.place)) g.kind;
       }
 
-  trail : {end to last at rate : ℕ} (limit : ℕ) → to ≤ p → to ≤ limit → Trail s end to last at rate → Trail t limit to last at rate
+  trail : {end to : ℕ} {last : Option ℕ} {at : ℕ} {rate : Option ℕ} (limit : ℕ) → to ≤ p → to ≤ limit → Trail s end to last at rate → Trail t limit to last at rate
   trail limit h l here = here
   trail limit h l (on g r) = on (going limit (omega (arith, h, ahead r)) (omega (arith, l, ahead r)) g) (trail limit h l r)
 
-  samples : {end to last size : ℕ} (limit : ℕ) → to + 8 ≤ p → to + 8 + size ≤ limit → Samples s end to last size → Samples t limit to last size
+  samples : {end to rate size : ℕ} (limit : ℕ) → to + 8 ≤ p → to + 8 + size ≤ limit → Samples s end to rate size → Samples t limit to rate size
   samples {to = to} limit h l d = record {
     named = sym (named-same to (bytes "data") (omega (arith, h))) ∙ d.named;
     sized = sym (word32-same (to + 4) (omega (arith, h))) ∙ d.sized;
     inside = l;
-    known = d.known;
     even = d.even;
   }
 

@@ -1,19 +1,20 @@
 -- What is answered lies inside the buffer and inside the RIFF chunk, behind 44 bytes of heads; and its rate is one that is accepted.
 -- Assumes nothing.
-use Prim.Native.Nat.{ℕ, ◌+◌, ◌%◌, ◌≤◌, ◌<◌}
+use Prim.Native.Nat.{ℕ, ◌+◌, ◌%◌, ◌≤◌}
 use native.Mathlib.Nat.{le_refl, le_trans}
 use native.Mathlib.Omega.{arith}
-use mathlib.Core.Path.{◌≡◌, refl, ◌∙◌, ap}
+use mathlib.Core.Path.{◌≡◌, refl, sym, ◌∙◌, ap}
 use mathlib.Core.Bool.{true}
 use mathlib.Core.List.{List}
 use lib.Dec.{lit≤}
 use lib.ListN.{length}
+use Rattle.std.specs.Prelude.{Option, Some, None}
 use borrow.Author.Tests.{leb-true}
 use Rattle.answer.specs.Figures.{lowest_rate, highest_rate}
 use Rattle.words.specs.Words.{word32}
 use Rattle.wave.specs.Answers.{found}
 use Rattle.wave.specs.Reading.{is_rate, read}
-use Rattle.wave.proofs.Moves.{both_hold}
+use Rattle.std.proofs.lemmas.Bool.{and_parts}
 use Rattle.wave.proofs.Turns.{Kind, skipped, format, Goes}
 use Rattle.wave.proofs.Trail.{Trail, here, on, end_of, recording}
 
@@ -26,45 +27,49 @@ pub record Bounds (s : List ℕ) (rate place size : ℕ) : Type 0 where
   pub lowest : lowest_rate ≤ rate
   pub highest : rate ≤ highest_rate
 
-module _ {s : List ℕ} {end to last : ℕ} where
-  pub ahead : {at rate : ℕ} → Trail s end to last at rate → at ≤ to
+module _ {s : List ℕ} {end to : ℕ} {last : Option ℕ} where
+  pub ahead : {at : ℕ} {rate : Option ℕ} → Trail s end to last at rate → at ≤ to
   ahead {at} here = le_refl at
   ahead (on g t) = let a = ahead t in omega (arith, g.place)
 
-  even : {at rate : ℕ} → Trail s end to last at rate → at % 2 ≡ 0 → to % 2 ≡ 0
+  even : {at : ℕ} {rate : Option ℕ} → Trail s end to last at rate → at % 2 ≡ 0 → to % 2 ≡ 0
   even here h = h
   even (on g t) h = even t (omega (arith, g.place, h))
 
 -- a rate that is known comes of a `fmt `, and that is 24 bytes long
-passing : {s : List ℕ} {end at rate next known : ℕ} (to : ℕ) → Goes s end at rate next known → Kind s at rate known → rate ≡ 0 → (known ≡ 0 → next + 24 ≤ to) → next ≤ to → at + 24 ≤ to
+passing : {s : List ℕ} {end at : ℕ} {rate : Option ℕ} {next : ℕ} {known : Option ℕ} (to : ℕ) → Goes s end at rate next known → Kind s at rate known → rate ≡ None → (known ≡ None → next + 24 ≤ to) → next ≤ to → at + 24 ≤ to
 passing to g (skipped f k) z far l = let a = far (k ∙ z) in omega (arith, g.place)
 passing to g (format f w b r k) z far l = omega (arith, g.place, w, l)
 
-far : {s : List ℕ} {end to last at rate : ℕ} → 0 < last → Trail s end to last at rate → rate ≡ 0 → at + 24 ≤ to
-far known here z = absurd (omega (arith, known, z))
-far {to} known (on g t) z = passing to g g.kind z (far known t) (ahead t)
+far : {s : List ℕ} {end to last at : ℕ} {rate : Option ℕ} → Trail s end to (Some last) at rate → rate ≡ None → at + 24 ≤ to
+far here z = cc
+far {to} (on g t) z = passing to g g.kind z (far t) (ahead t)
 
-still : {s : List ℕ} {at rate known : ℕ} → Kind s at rate known → (0 < rate → is_rate rate ≡ true) → 0 < known → is_rate known ≡ true
-still (skipped f k) h l = ap is_rate k ∙ h (rw k at l)
-still (format f w b r k) h l = r
+-- every rate that is known is one that is accepted
+abbrev Accepted : Option ℕ → Type 0
+Accepted rate = (r : ℕ) → rate ≡ Some r → is_rate r ≡ true
 
-rated : {s : List ℕ} {end to last at rate : ℕ} → Trail s end to last at rate → 0 < last → (0 < rate → is_rate rate ≡ true) → is_rate last ≡ true
-rated here k h = h k
-rated (on g t) k h = rated t k (still g.kind h)
+still : {s : List ℕ} {at : ℕ} {rate known : Option ℕ} → Kind s at rate known → Accepted rate → Accepted known
+still (skipped f k) h r e = h r (sym k ∙ e)
+still {s} {at} (format f w b a k) h r e = let q : r ≡ word32 s (at + 8 + 4) = cc in ap is_rate q ∙ a
+
+rated : {s : List ℕ} {end to : ℕ} {last : Option ℕ} {at : ℕ} {rate : Option ℕ} → Trail s end to last at rate → Accepted rate → Accepted last
+rated here h = h
+rated (on g t) h = rated t (still g.kind h)
 
 pub between : (rate : ℕ) → is_rate rate ≡ true → (lowest_rate ≤ rate) × (rate ≤ highest_rate)
 unfolding is_rate
-between rate h = let r = both_hold _ _ h in (le_trans (lit≤ tt) (leb-true _ _ r.0), le_trans (leb-true _ _ r.1) (lit≤ tt))
+between rate h = let r = and_parts _ _ h in (le_trans (lit≤ tt) (leb-true _ _ r.0), le_trans (leb-true _ _ r.1) (lit≤ tt))
 
 pub accepted : (s : List ℕ) {rate place size : ℕ} → read s ≡ found rate place size → is_rate rate ≡ true
-accepted s h = let w = recording s h in rated w.trail w.samples.known (λ l. absurd (omega (arith, l)))
+accepted s h = rated (recording s h).trail (λ r e. cc) _ refl
 
 pub inside : (s : List ℕ) {rate place size : ℕ} → read s ≡ found rate place size → Bounds s rate place size
 unfolding end_of is_rate
 inside s {rate} {place} {size} h =
     let w = recording s h in
     let d = w.samples in
-    let a = far d.known w.trail refl in
+    let a = far w.trail refl in
     let e = even w.trail refl in
     let r = between rate (accepted s h) in
     record {

@@ -1,9 +1,9 @@
 -- What reading a recording means, beyond the equations of the functions.
 pub mod Cases
-pub mod Moves
+pub mod Tests
+pub mod Turns
 pub mod Budget
 pub mod Numbers
-pub mod Turns
 pub mod Trail
 pub mod Refused
 pub mod Inside

@@ -5,6 +5,7 @@ use native.Mathlib.Omega.{arith}
 use mathlib.Core.Path.{◌≡◌}
 use mathlib.Core.List.{List}
 use lib.ListN.{length}
+use Rattle.std.specs.Prelude.{None}
 use Rattle.wave.specs.Reading.{chunks, end_within, walk}
 use Rattle.wave.specs.Recordings.{Tells, Inside, Lies, Exactly, OnlyHeads, Lasts}
 use Rattle.wave.proofs.Budget.{enough}
@@ -43,13 +44,13 @@ exactly = record { all = λ s rate place size w. all_read s w; nothing_else = λ
 pub only-heads : OnlyHeads
 only-heads = record { any_samples = λ s other rate place size h n. any_samples s other h n; any_rest = λ s more k rate place size h l. any_rest s k more h l }
 
-longer : (s : List ℕ) (limit more : ℕ) → chunks s (end_within s limit) (suc (length s) + more) 12 0 ≡ walk s limit
+longer : (s : List ℕ) (limit more : ℕ) → chunks s (end_within s limit) (suc (length s) + more) 12 None ≡ walk s limit
 unfolding walk
 longer s limit more =
     let end = end_within s limit in
     let a : end - 12 < suc (length s) + more = omega arith in
     let b : end - 12 < suc (length s) = omega arith in
-    enough s end (suc (length s) + more) (suc (length s)) 12 0 a b
+    enough s end (suc (length s) + more) (suc (length s)) 12 None a b
 
 pub lasts : Lasts
 lasts = record { longer = longer }

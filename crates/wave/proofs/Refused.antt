@@ -3,9 +3,11 @@
 use Prim.Native.Nat.{ℕ, ◌+◌, ◌%◌, ◌<◌}
 use native.Mathlib.Omega.{arith}
 use mathlib.Core.Path.{◌≡◌, refl, sym, ◌∙◌, ap}
-use mathlib.Core.Bool.{Bool, true, false, cond}
+use mathlib.Core.Bool.{Bool, cond}
 use mathlib.Core.List.{List}
-use lib.Dec.{eqb, ltb, leb}
+use lib.Dec.{eqb, leb}
+use Rattle.std.proofs.lemmas.Bool.{cond_both}
+use Rattle.std.specs.Prelude.{Some, None, Result, Ok, Err}
 use Rattle.answer.specs.Told.{unless}
 use Rattle.words.specs.Words.{word32}
 use Rattle.wave.specs.Answers.{found, refused, number, told}
@@ -13,8 +15,7 @@ use Rattle.wave.specs.Reading.{Met, Data, Stops, size_at, samples_at, samples_of
 use Rattle.wave.specs.declared.Fault.{Fault}
 use Rattle.wave.specs.declared.Fault.TheVariants.{NotWave, CutShort, Missing, OtherFormat, BadRate, OddData}
 use Rattle.wave.specs.declared.Figures.{Figures}
-use Rattle.wave.specs.declared.Wave.{Wave}
-use Rattle.wave.specs.declared.Wave.TheVariants as wave
+use Rattle.wave.specs.declared.Found.{Found}
 
 -- ---- three zeros
 pub record Zeros (t : Figures) : Type 0 where
@@ -27,16 +28,15 @@ done : (r p z : ℕ) → Zeros (found r p z)
 done r p z = record { zeros = λ h. absurd (h refl) }
 
 else : (t : Bool) (n : ℕ) (x : Figures) → Zeros x → Zeros (unless t (refused n) x)
-else true n x h = h
-else false n x h = plain n
+else t n x h = cond_both t x (refused n) Zeros (λ _. h) (λ _. plain n)
 
 module _ (s : List ℕ) where
   of-met : (end : ℕ) (m : Met) → Zeros (samples_of s end m)
   unfolding samples_at
-  of-met end (Data at rate) =
+  of-met end (Data at None) = else (leb (at + 8 + size_at s at) end) 11 _ (plain 12)
+  of-met end (Data at (Some rate)) =
       else (leb (at + 8 + size_at s at) end) 11 _
-      (else (ltb 0 rate) 12 _
-      (else (eqb (size_at s at % 2) 0) 14 _ (done rate (at + 8) (size_at s at))))
+      (else (eqb (size_at s at % 2) 0) 14 _ (done rate (at + 8) (size_at s at)))
   of-met end (Stops n) = plain n
 
   pub refused-zeros : Zeros (read s)
@@ -66,12 +66,14 @@ some OtherFormat = omega arith
 some BadRate = omega arith
 some OddData = omega arith
 
-pub told-once : (a b : Wave) → told a ≡ told b → a ≡ b
-told-once (wave.Found r p z) (wave.Found q o y) h =
-    let i : r ≡ q = ap (λ (t : Figures). t.rate) h in
-    let j : p ≡ o = ap (λ (t : Figures). t.place) h in
-    let k : z ≡ y = ap (λ (t : Figures). t.length) h in
-    cc
-told-once (wave.Found r p z) (wave.Refused g) h = absurd (let k : 0 ≡ number g = ap (λ (t : Figures). t.number) h in omega (arith, some g))
-told-once (wave.Refused f) (wave.Found q o y) h = absurd (let k : number f ≡ 0 = ap (λ (t : Figures). t.number) h in omega (arith, some f))
-told-once (wave.Refused f) (wave.Refused g) h = ap wave.Refused (sym (its-fault f) ∙ ap (λ (t : Figures). fault_of t.number) h ∙ its-fault g)
+pub told-once : (a b : Result Found Fault) → told a ≡ told b → a ≡ b
+told-once (Ok f) (Ok g) h =
+    let i : f.rate ≡ g.rate = ap (λ (t : Figures). t.rate) h in
+    let j : f.place ≡ g.place = ap (λ (t : Figures). t.place) h in
+    let k : f.length ≡ g.length = ap (λ (t : Figures). t.length) h in
+    let made : ℕ → ℕ → ℕ → Result Found Fault = λ r p z. Ok (record { rate = r; place = p; length = z }) in
+    let e : made f.rate f.place f.length ≡ made g.rate g.place g.length = rw (i, j, k) in
+    e
+told-once (Ok f) (Err g) h = absurd (let k : 0 ≡ number g = ap (λ (t : Figures). t.number) h in omega (arith, some g))
+told-once (Err f) (Ok g) h = absurd (let k : number f ≡ 0 = ap (λ (t : Figures). t.number) h in omega (arith, some f))
+told-once (Err f) (Err g) h = ap Err (sym (its-fault f) ∙ ap (λ (t : Figures). fault_of t.number) h ∙ its-fault g)

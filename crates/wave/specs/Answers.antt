@@ -1,13 +1,12 @@
 -- What reading a recording tells: a number, and the three figures. Definitions only.
 -- Assumes nothing.
-use Rattle.std.specs.Prelude.{ℕ}
+use Rattle.std.specs.Prelude.{ℕ, Result, Ok, Err}
 use Rattle.answer.specs.Refusals as Refusals
 use Rattle.answer.specs.declared.Refusal.TheVariants as refusal
 use Rattle.wave.specs.declared.Fault.{Fault}
 use Rattle.wave.specs.declared.Fault.TheVariants.{NotWave, CutShort, Missing, OtherFormat, BadRate, OddData}
 use Rattle.wave.specs.declared.Figures.{Figures}
-use Rattle.wave.specs.declared.Wave.{Wave}
-use Rattle.wave.specs.declared.Wave.TheVariants as wave
+use Rattle.wave.specs.declared.Found.{Found}
 
 -- the rate in Hz, the place of the first sample's first byte in the buffer, and how many bytes the samples are
 abbrev pub found : ℕ → ℕ → ℕ → Figures
@@ -26,6 +25,6 @@ number OtherFormat = 13
 number BadRate = Refusals.number refusal.BadRate
 number OddData = 14
 
-abbrev pub told : Wave → Figures
-told (wave.Found rate place size) = found rate place size
-told (wave.Refused fault) = refused (number fault)
+abbrev pub told : Result Found Fault → Figures
+told (Ok f) = found f.rate f.place f.length
+told (Err fault) = refused (number fault)

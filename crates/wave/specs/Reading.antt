@@ -1,6 +1,6 @@
 -- Document 02's W1: reading a recording in a list of bytes. Definitions only.
 -- Assumes nothing.
-use Rattle.std.specs.Prelude.{ℕ, zero, suc, ◌+◌, ◌*◌, ◌%◌, min, Bool, ◌&&◌, cond, List, eqb, ltb, leb, length, take, drop}
+use Rattle.std.specs.Prelude.{ℕ, zero, suc, ◌+◌, ◌*◌, ◌%◌, min, Bool, ◌&&◌, cond, List, Option, Some, None, is_none, eqb, ltb, leb, length, take, drop}
 use Rattle.answer.specs.Figures.{lowest_rate, highest_rate}
 use Rattle.answer.specs.Names.{bytes, same}
 use Rattle.answer.specs.Told.{unless}
@@ -8,22 +8,27 @@ use Rattle.words.specs.Words.{word16, word32}
 use Rattle.wave.specs.Answers.{found, refused}
 use Rattle.wave.specs.declared.Figures.{Figures}
 
--- where the chunks lead: to the head of `data` at a place, with the rate known there, 0 where no `fmt ` came before it; or to the number of a refusal
+-- where the chunks lead: to the head of `data` at a place, with the rate known there, none where no `fmt ` came before it; or to the number of a refusal
 pub data Met : Type 0 where
-  Data : ℕ → ℕ → Met
+  Data : ℕ → Option ℕ → Met
   Stops : ℕ → Met
 
 -- what one chunk leads to: that, or the place of the next chunk with the rate known there
 pub data Step : Type 0 where
   Ends : Met → Step
-  On : ℕ → ℕ → Step
+  On : ℕ → Option ℕ → Step
 
-abbrev pub follow : Step → (ℕ → ℕ → Met) → Met
+abbrev pub follow : Step → (ℕ → Option ℕ → Met) → Met
 follow (Ends m) next = m
 follow (On at rate) next = next at rate
 
 unfoldable pub is_rate : ℕ → Bool
 is_rate rate = leb lowest_rate rate && leb rate highest_rate
+
+-- the answer where no rate is known, and what is done with one
+abbrev pub where_known : {A : Type 0} → Option ℕ → A → (ℕ → A) → A
+where_known None otherwise rest = otherwise
+where_known (Some rate) otherwise rest = rest rate
 
 module _ (s : List ℕ) where
   -- the four bytes at a place are this name
@@ -41,8 +46,8 @@ module _ (s : List ℕ) where
   is_data at = is_named at (bytes "data")
 
   -- "later ones are skipped": no rate is known yet
-  abbrev pub is_first_format : ℕ → ℕ → Bool
-  is_first_format at rate = is_named at (bytes "fmt ") && eqb rate 0
+  abbrev pub is_first_format : ℕ → Option ℕ → Bool
+  is_first_format at rate = is_named at (bytes "fmt ") && is_none rate
 
   -- the 16 bytes at a place: tag 1, one channel, "byte rate must be rate times 2 and block align 2", 16 bits
   unfoldable pub is_format : ℕ → Bool
@@ -58,11 +63,11 @@ module _ (s : List ℕ) where
   format_step place size next =
       unless (eqb size 16 && is_format place) (Ends (Stops 13))
       (unless (is_rate (word32 s (place + 4))) (Ends (Stops 5))
-      (On next (word32 s (place + 4))))
+      (On next (Some (word32 s (place + 4)))))
 
   module _ (end : ℕ) where
     -- the chunk at a place, "as met": none, so no `data`, 12; its head, 11; `data`, whatever its head says; the chunk with its pad byte, 11; the first `fmt `
-    unfoldable pub step : ℕ → ℕ → Step
+    unfoldable pub step : ℕ → Option ℕ → Step
     step at rate =
         unless (ltb at end) (Ends (Stops 12))
         (unless (leb (at + 8) end) (Ends (Stops 11))
@@ -72,17 +77,17 @@ module _ (s : List ℕ) where
         (On (behind at) rate)))))
 
     -- the chunks from a place on, at most so many
-    unfoldable pub chunks : ℕ → ℕ → ℕ → Met
+    unfoldable pub chunks : ℕ → ℕ → Option ℕ → Met
     chunks zero at rate = Stops 12
     chunks (suc most) at rate = follow (step at rate) (chunks most)
 
     -- the chunk `data` at a place: 11, 12, 14; "the pad of `data` isn't looked at"
-    unfoldable pub samples_at : ℕ → ℕ → Figures
+    unfoldable pub samples_at : ℕ → Option ℕ → Figures
     samples_at at rate =
         unless (leb (at + 8 + size_at at) end) (refused 11)
-        (unless (ltb 0 rate) (refused 12)
-        (unless (eqb (size_at at % 2) 0) (refused 14)
-        (found rate (at + 8) (size_at at))))
+        (where_known rate (refused 12) (λ hz.
+        unless (eqb (size_at at % 2) 0) (refused 14)
+        (found hz (at + 8) (size_at at))))
 
     abbrev pub samples_of : Met → Figures
     samples_of (Data at rate) = samples_at at rate
@@ -94,7 +99,7 @@ module _ (s : List ℕ) where
 
   -- the chunks from byte 12 up to that end: there are no more chunks than bytes
   unfoldable pub walk : ℕ → Met
-  walk limit = chunks (end_within limit) (suc (length s)) 12 0
+  walk limit = chunks (end_within limit) (suc (length s)) 12 None
 
   unfoldable pub is_wave : Bool
   is_wave = leb 12 (length s) && (is_named 0 (bytes "RIFF") && is_named 8 (bytes "WAVE"))

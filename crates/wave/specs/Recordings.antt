@@ -1,6 +1,6 @@
 -- What reading promises of any list of bytes, beyond the equation of `read`. Statements only.
 -- Assumes nothing.
-use Rattle.std.specs.Prelude.{ℕ, suc, ◌+◌, ◌-◌, ◌%◌, ◌≤◌, ◌≡◌, true, List, ◌++◌, pos, length, take, drop}
+use Rattle.std.specs.Prelude.{ℕ, suc, ◌+◌, ◌-◌, ◌%◌, ◌≤◌, ◌≡◌, true, List, ◌++◌, None, Result, pos, length, take, drop}
 use Rattle.std.specs.Float.{binary32}
 use Rattle.std.specs.Float.Ieee.{of_int, to_unsigned}
 use Rattle.answer.specs.Checks as Checks
@@ -10,7 +10,8 @@ use Rattle.words.specs.Words.{Bytes, le32}
 use Rattle.wave.specs.Answers.{found, told}
 use Rattle.wave.specs.Grammar.{IsWave}
 use Rattle.wave.specs.Reading.{riff_size, chunks, end_within, walk, read}
-use Rattle.wave.specs.declared.Wave.{Wave}
+use Rattle.wave.specs.declared.Fault.{Fault}
+use Rattle.wave.specs.declared.Found.{Found}
 
 abbrev pub Reads : List ℕ → ℕ → ℕ → ℕ → Type 0
 Reads s rate place size = read s ≡ found rate place size
@@ -18,7 +19,7 @@ Reads s rate place size = read s ≡ found rate place size
 -- "They answer three zeros"; and what is told says which answer it was
 pub record Tells : Type 0 where
   pub zeros : (s : List ℕ) → ((read s).number ≡ 0 → ⊥) → ((read s).rate ≡ 0) × (((read s).place ≡ 0) × ((read s).length ≡ 0))
-  pub once : (a b : Wave) → told a ≡ told b → a ≡ b
+  pub once : (a b : Result Found Fault) → told a ≡ told b → a ≡ b
 
 -- where samples may lie: inside the buffer and the RIFF chunk, behind 44 bytes of heads at the least, at an even place; and at which rates
 pub record Inside (s : List ℕ) (rate place size : ℕ) : Type 0 where
@@ -49,4 +50,4 @@ pub record OnlyHeads : Type 0 where
 
 -- the definition's walk may take more turns, and leads to the same
 pub record Lasts : Type 0 where
-  pub longer : (s : List ℕ) (limit more : ℕ) → chunks s (end_within s limit) (suc (length s) + more) 12 0 ≡ walk s limit
+  pub longer : (s : List ℕ) (limit more : ℕ) → chunks s (end_within s limit) (suc (length s) + more) 12 None ≡ walk s limit

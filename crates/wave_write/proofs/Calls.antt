@@ -3,15 +3,15 @@
 use Prim.Native.Nat.{ℕ, ◌+◌, ◌%◌, ◌≤◌, ◌<◌}
 use native.Mathlib.Omega.{arith}
 use mathlib.Core.Path.{◌≡◌, refl, sym, ◌∙◌, ap}
-use mathlib.Core.Bool.{Bool, true, false, cond}
+use mathlib.Core.Bool.{true, cond}
 use mathlib.Core.List.{List}
-use lib.Dec.{eqb, leb}
+use lib.Dec.{eqb}
+use Rattle.std.specs.Prelude.{Result, Ok, Err}
 use lib.ListN.{length, drop, length-append, length-drop}
 use lib.Seq.{drop_at}
-use borrow.Author.Tests.{le-leb, leb-true, eqb-true}
+use borrow.Author.Tests.{le-leb, lt-leb, leb-true, eq-eqb, eqb-true}
 use Rattle.answer.specs.Buffers.{over}
 use Rattle.answer.specs.Figures.{lowest_rate, highest_rate}
-use Rattle.answer.specs.Told.{unless}
 use Rattle.wave.specs.Reading.{is_rate}
 use Rattle.wave.proofs.Inside.{between}
 use Rattle.wave_write.specs.Answers.{done, refused, number, told}
@@ -19,9 +19,8 @@ use Rattle.wave_write.specs.Writing.{longest_data, file, write}
 use Rattle.wave_write.specs.declared.Fault.{Fault}
 use Rattle.wave_write.specs.declared.Fault.TheVariants.{BadRate, OddData, TooLong, NoRoom}
 use Rattle.wave_write.specs.declared.Figures.{Figures}
-use Rattle.wave_write.specs.declared.Written.{Written}
-use Rattle.wave_write.specs.declared.Written.TheVariants as written
 use Rattle.wave_write.proofs.Back.{long}
+use Rattle.wave_write.proofs.Tests.{by-tests}
 
 -- ---- what a call leaves
 -- the clauses of Writable and Room once more, so that an edit of the page is refused by the page alone
@@ -64,18 +63,21 @@ module _ (rate : ℕ) (samples out : List ℕ) where
         file-over = λ k. refl;
       }
 
-  test : (t : Bool) (n : ℕ) (x : Figures × List ℕ) → 0 < n → (t ≡ true → Left rate samples out x) → Left rate samples out (unless t (refused n, out) x)
-  test true n x l h = h refl
-  test false n x l h = stopped n l
-
   pub left : Left rate samples out (write rate samples out)
   unfolding write
   left =
-      test (is_rate rate) 5 _ (omega arith) (λ r.
-      test (eqb (length samples % 2) 0) 14 _ (omega arith) (λ e.
-      test (leb (length samples) longest_data) 17 _ (omega arith) (λ s.
-      test (leb (44 + length samples) (length out)) 15 _ (omega arith) (λ h.
-      finished record { lowest = (between rate r).0; highest = (between rate r).1; even = eqb-true _ _ e; short = leb-true _ _ s; room = leb-true _ _ h }))))
+      by-tests (Left rate samples out) out stopped _ _ _ _ _ (λ r e s h.
+      finished record { lowest = (between rate r).0; highest = (between rate r).1; even = eqb-true _ _ e; short = leb-true _ _ s; room = leb-true _ _ h })
+
+  -- what can be written is
+  module _ (rated : is_rate rate ≡ true) (even : length samples % 2 ≡ 0) where
+    pub written : length samples ≤ longest_data → 44 + length samples ≤ length out → write rate samples out ≡ (done (44 + length samples), over (file rate samples) out)
+    unfolding write
+    written short room = rw (rated, eq-eqb _ _ even, le-leb _ _ short, le-leb _ _ room)
+
+    pub too_long : longest_data < length samples → write rate samples out ≡ (refused 17, out)
+    unfolding write
+    too_long long = rw (rated, eq-eqb _ _ even, lt-leb _ _ long)
 
 pub accepted : (rate : ℕ) → lowest_rate ≤ rate → rate ≤ highest_rate → is_rate rate ≡ true
 unfolding is_rate
@@ -98,8 +100,8 @@ not-0 OddData = omega arith
 not-0 TooLong = omega arith
 not-0 NoRoom = omega arith
 
-pub told-once : (a b : Written) → told a ≡ told b → a ≡ b
-told-once (written.Done n) (written.Done m) h = ap written.Done (ap (λ (t : Figures). t.length) h)
-told-once (written.Done n) (written.Refused g) h = absurd (let k : 0 ≡ number g = ap (λ (t : Figures). t.number) h in omega (arith, not-0 g))
-told-once (written.Refused f) (written.Done m) h = absurd (let k : number f ≡ 0 = ap (λ (t : Figures). t.number) h in omega (arith, not-0 f))
-told-once (written.Refused f) (written.Refused g) h = ap written.Refused (sym (its-fault f) ∙ ap (λ (t : Figures). fault_of t.number) h ∙ its-fault g)
+pub told-once : (a b : Result ℕ Fault) → told a ≡ told b → a ≡ b
+told-once (Ok n) (Ok m) h = ap Ok (ap (λ (t : Figures). t.length) h)
+told-once (Ok n) (Err g) h = absurd (let k : 0 ≡ number g = ap (λ (t : Figures). t.number) h in omega (arith, not-0 g))
+told-once (Err f) (Ok m) h = absurd (let k : number f ≡ 0 = ap (λ (t : Figures). t.number) h in omega (arith, not-0 f))
+told-once (Err f) (Err g) h = ap Err (sym (its-fault f) ∙ ap (λ (t : Figures). fault_of t.number) h ∙ its-fault g)

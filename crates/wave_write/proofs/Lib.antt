@@ -1,8 +1,6 @@
 -- What writing a recording means, beyond the equations of the functions.
-pub mod Head
 pub mod Over
-pub mod Cases
-pub mod HeadCases
+pub mod Tests
 pub mod Back
 pub mod Calls
 pub mod Again

@@ -15,9 +15,8 @@ use Rattle.wave.proofs.Inside.{inside}
 use Rattle.wave_write.specs.Answers.{done, refused}
 use Rattle.wave_write.specs.Writing.{longest_data, file, write}
 use Rattle.wave_write.specs.RoundTrips.{Tells, Leaves, Writable, Exactly, ReadBack, Again, samples_in, again, Becomes, same, shorter, resized}
-use Rattle.wave_write.proofs.Cases.{too_long, finished}
 use Rattle.wave_write.proofs.Back.{long, read_back, samples-back}
-use Rattle.wave_write.proofs.Calls.{Tests, left, accepted, told-once}
+use Rattle.wave_write.proofs.Calls.{Tests, left, accepted, written, too_long, told-once}
 use Rattle.wave_write.proofs.Again.{samples-long, no_chunk, the_same, but-size}
 
 pub tells : Tells
@@ -35,7 +34,7 @@ writable t = record { lowest = t.lowest; highest = t.highest; even = t.even; sho
 
 pub exactly : Exactly
 exactly = record {
-  all = λ rate samples out w. finished rate samples out (accepted rate w.lowest w.highest) w.even w.short;
+  all = λ rate samples out w. written rate samples out (accepted rate w.lowest w.highest) w.even w.short;
   nothing_else = λ rate samples out h. let t = (left rate samples out).tests h in (writable t, t.room);
   long = long;
 }
@@ -80,11 +79,11 @@ module _ (s : List ℕ) {rate place size : ℕ} where
   every small h = by_place small h (eq-zero-or-pos (place - 44)) (eq-zero-or-pos (length s - (place + size)))
 
 module _ (s out : List ℕ) (rate place size : ℕ) (h : Reads s rate place size) where
-  written : size ≤ longest_data → 44 + size ≤ length out → write rate (samples_in s place size) out ≡ (done (44 + size), over (again s rate place size) out)
-  written few room =
+  once_more : size ≤ longest_data → 44 + size ≤ length out → write rate (samples_in s place size) out ≡ (done (44 + size), over (again s rate place size) out)
+  once_more few room =
       let i = inside s h in
       let n = samples-long s h in
-      finished rate (samples_in s place size) out (accepted rate i.lowest i.highest) (rw n i.even_size) (rw n few) (rw n room) ∙ ap (λ (k : ℕ). (done (44 + k), over (again s rate place size) out)) n
+      written rate (samples_in s place size) out (accepted rate i.lowest i.highest) (rw n i.even_size) (rw n few) (rw n room) ∙ ap (λ (k : ℕ). (done (44 + k), over (again s rate place size) out)) n
 
   refused-again : longest_data < size → write rate (samples_in s place size) out ≡ (refused 17, out)
   refused-again many =
@@ -97,6 +96,6 @@ written-again = record {
   same = λ s rate size b h n z. the_same s b h n z;
   every = λ s rate place size b h. every s b h;
   no_chunk = λ s rate size b h. no_chunk s b h;
-  written = written;
+  written = once_more;
   too_long = refused-again;
 }

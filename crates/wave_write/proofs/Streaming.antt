@@ -3,13 +3,11 @@
 use Prim.Native.Nat.{ℕ, ◌%◌, ◌≤◌, ◌<◌, ◌^◌}
 use native.Mathlib.Omega.{arith}
 use mathlib.Core.Path.{◌≡◌, refl}
-use mathlib.Core.Bool.{Bool, true, false}
+use mathlib.Core.Bool.{true}
 use mathlib.Core.List.{List, ◌++◌}
-use lib.Dec.{eqb, leb, ltb}
 use lib.ListN.{length, take, drop}
-use borrow.Author.Tests.{leb-true, ltb-true, eqb-true}
+use borrow.Author.Tests.{le-leb, leb-true, lt-ltb, ltb-true, eq-eqb, eqb-true}
 use Rattle.answer.specs.Buffers.{over}
-use Rattle.answer.specs.Told.{unless}
 use Rattle.wave.specs.Reading.{is_rate}
 use Rattle.wave.specs.Recordings.{Reads}
 use Rattle.wave.proofs.Inside.{between}
@@ -17,7 +15,7 @@ use Rattle.wave_write.specs.Answers.{done, refused}
 use Rattle.wave_write.specs.Writing.{riff_for, head, file, write_head}
 use Rattle.wave_write.specs.Streaming.{Headed, Streaming}
 use Rattle.wave_write.specs.declared.Figures.{Figures}
-use Rattle.wave_write.proofs.HeadCases.{finished}
+use Rattle.wave_write.proofs.Tests.{by-tests}
 use Rattle.wave_write.proofs.Back.{read_back}
 use Rattle.wave_write.proofs.Calls.{accepted}
 
@@ -33,15 +31,8 @@ module _ (rate size : ℕ) (out : List ℕ) where
   head-by : (P : Figures × List ℕ → Type 0) → ((n : ℕ) → 0 < n → P (refused n, out)) → (Tests → P (done 44, over (head rate size) out)) → P (write_head rate size out)
   unfolding write_head
   head-by P refusals passes =
-      test (is_rate rate) 5 _ (omega arith) (λ r.
-      test (eqb (size % 2) 0) 14 _ (omega arith) (λ e.
-      test (ltb (riff_for size) (2 ^ 32)) 17 _ (omega arith) (λ f.
-      test (leb 44 (length out)) 15 _ (omega arith) (λ h.
-      passes record { rated = r; even = eqb-true _ _ e; fits = ltb-true _ _ f; room = leb-true _ _ h }))))
-    where
-      test : (t : Bool) (n : ℕ) (x : Figures × List ℕ) → 0 < n → (t ≡ true → P x) → P (unless t (refused n, out) x)
-      test true n x l h = h refl
-      test false n x l h = refusals n l
+      by-tests P out refusals _ _ _ _ _ (λ r e f h.
+      passes record { rated = r; even = eqb-true _ _ e; fits = ltb-true _ _ f; room = leb-true _ _ h })
 
   tests : (write_head rate size out).0.number ≡ 0 → Tests
   tests = head-by (λ t. t.0.number ≡ 0 → Tests) (λ n l z. absurd (omega (arith, l, z))) (λ t _. t)
@@ -50,7 +41,8 @@ module _ (rate size : ℕ) (out : List ℕ) where
   headed t = record { lowest = (between rate t.rated).0; highest = (between rate t.rated).1; even = t.even; fits = t.fits; room = t.room }
 
   head-over : Tests → write_head rate size out ≡ (done 44, over (head rate size) out)
-  head-over t = finished rate size out t.rated t.even (omega (arith, t.fits)) t.room
+  unfolding write_head
+  head-over t = rw (t.rated, eq-eqb _ _ t.even, lt-ltb (riff_for size) (2 ^ 32) t.fits, le-leb _ _ t.room)
 
   all : Headed rate size out → write_head rate size out ≡ (done 44, over (head rate size) out)
   all h = head-over record { rated = accepted rate h.lowest h.highest; even = h.even; fits = h.fits; room = h.room }

@@ -1,6 +1,6 @@
 -- What writing promises, beyond the equation of `write`: what it tells and leaves, what is written, and the way to the reader and back. Statements only.
 -- Assumes nothing.
-use Rattle.std.specs.Prelude.{ℕ, ◌+◌, ◌%◌, ◌≤◌, ◌<◌, ◌≡◌, List, [], ◌++◌, ◌⊎◌, length, take, drop}
+use Rattle.std.specs.Prelude.{ℕ, ◌+◌, ◌%◌, ◌≤◌, ◌<◌, ◌≡◌, List, [], ◌++◌, ◌⊎◌, Result, length, take, drop}
 use Rattle.answer.specs.Buffers.{over}
 use Rattle.answer.specs.Figures.{lowest_rate, highest_rate}
 use Rattle.words.specs.Words.{Bytes, put32}
@@ -9,12 +9,12 @@ use Rattle.wave.specs.Reading.{riff_size}
 use Rattle.wave.specs.Recordings.{Reads}
 use Rattle.wave_write.specs.Answers.{done, refused, told}
 use Rattle.wave_write.specs.Writing.{longest_data, file, write}
-use Rattle.wave_write.specs.declared.Written.{Written}
+use Rattle.wave_write.specs.declared.Fault.{Fault}
 
 -- a refusal tells the length 0; and what is told says which answer it was
 pub record Tells : Type 0 where
   pub zero : (rate : ℕ) (samples out : List ℕ) → ((write rate samples out).0.number ≡ 0 → ⊥) → (write rate samples out).0.length ≡ 0
-  pub once : (a b : Written) → told a ≡ told b → a ≡ b
+  pub once : (a b : Result ℕ Fault) → told a ≡ told b → a ≡ b
 
 -- "the output is then unchanged, and past the file it always is"; it never grows or shrinks
 pub record Leaves : Type 0 where

@@ -1,6 +1,6 @@
 -- Words of two and four bytes in a list of bytes, the lowest byte first; and a number's bytes. Definitions only.
 -- Assumes nothing.
-use Rattle.std.specs.Prelude.{ℕ, ◌+◌, ◌*◌, ◌/◌, ◌%◌, ◌<◌, cond, List, [], ◌∷◌, ◌++◌, leb, length, get_or, set}
+use Rattle.std.specs.Prelude.{ℕ, ◌+◌, ◌*◌, ◌/◌, ◌%◌, ◌<◌, cond, List, [], ◌∷◌, ◌++◌, Option, Some, None, leb, length, take, drop, get_or, set}
 
 -- a list of bytes
 abbrev pub Bytes : List ℕ → Type 0
@@ -46,3 +46,10 @@ le16 n = n % 0x100 ∷ n / 0x100 ∷ []
 
 abbrev pub le32 : ℕ → List ℕ
 le32 n = le16 (n % 0x1_0000) ++ le16 (n / 0x1_0000)
+
+-- ---- so many bytes from a place on, and the list with bytes there; none, and the list as it is, where not all of them lie in it
+abbrev pub bytes_at : ℕ → List ℕ → ℕ → Option (List ℕ)
+bytes_at n s at = cond (leb (at + n) (length s)) (Some (take n (drop at s))) None
+
+abbrev pub put_at : ℕ → List ℕ → ℕ → List ℕ → List ℕ
+put_at n s at bytes = cond (leb (at + n) (length s)) (take at s ++ (bytes ++ drop (at + n) s)) s

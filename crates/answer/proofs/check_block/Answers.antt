@@ -1,24 +1,25 @@
 -- `answer::check_block` meets its contract. Assumes nothing.
 use mathlib.Core.Path.{sym, ◌∙◌}
-use borrow.Author.Tests.{le-leb, lt-leb}
+use borrow.Author.Tests.{eq-eqb, ne_eqb, le-leb, lt-leb}
 use Rattle.answer.specs.Checks.{check_block}
+use Rattle.answer.proofs.Samples.{some-first, none-first}
 use Rattle.answer.proofs.check_block.Goals as goal
 
-pub returns-then-not-lengths_agree : goal.returns-then-not-lengths_agree
+pub returns-then-samples-places : goal.returns-then-samples-places
 unfolding check_block
-returns-then-not-lengths_agree c = rw (sym c.lengths_agree.ensures ∙ c.if-not-lengths_agree.true)
+returns-then-samples-places c = rw (ne_eqb _ _ c.if-samples-places.true)
 
-pub returns-then-not-at_most : goal.returns-then-not-at_most
+pub returns-then-samples-gt-LONGEST_BLOCK : goal.returns-then-samples-gt-LONGEST_BLOCK
 unfolding check_block
-returns-then-not-at_most c =
-    rw (sym c.lengths_agree.ensures ∙ c.if-not-lengths_agree.false, sym c.at_most.ensures ∙ c.if-not-at_most.true)
+returns-then-samples-gt-LONGEST_BLOCK c = rw (eq-eqb _ _ c.if-samples-places.false, lt-leb _ _ c.if-samples-gt-LONGEST_BLOCK.true)
 
-pub returns-then-place-samples : goal.returns-then-place-samples
+pub returns-in-Some : goal.returns-in-Some
 unfolding check_block
-returns-then-place-samples c =
-    rw (sym c.lengths_agree.ensures ∙ c.if-not-lengths_agree.false, sym c.at_most.ensures ∙ c.if-not-at_most.false, ← c.first_refused-place.ensures, lt-leb _ _ c.if-place-samples.true)
+returns-in-Some c =
+    let f = some-first _ _ (sym c.first_refused.ensures ∙ c.in-Some.is) in
+    rw (eq-eqb _ _ c.if-samples-places.false, le-leb _ _ c.if-samples-gt-LONGEST_BLOCK.false, f.0, f.1)
 
-pub returns : goal.returns
+pub returns-in-None : goal.returns-in-None
 unfolding check_block
-returns c =
-    rw (sym c.lengths_agree.ensures ∙ c.if-not-lengths_agree.false, sym c.at_most.ensures ∙ c.if-not-at_most.false, ← c.first_refused-place.ensures, le-leb _ _ c.if-place-samples.false)
+returns-in-None c =
+    rw (eq-eqb _ _ c.if-samples-places.false, le-leb _ _ c.if-samples-gt-LONGEST_BLOCK.false, none-first _ (sym c.first_refused.ensures ∙ c.in-None.is))

@@ -20,18 +20,6 @@ is : (c : goal.Else-i-gt63)
     n / 2 ^ i + (n % (1 * 2 ^ i % 18446744073709551616) + (1 * 2 ^ (i - 1) % 18446744073709551616 - 1) + n / 2 ^ i % 2) / 2 ^ i ≡ closest n (2 ^ i)
 is c = rw ((known c).whole, (known c).half) (nearest-is c.args.n c.args.i (omega (arith, c.if-i-eq0.false)))
 
-pub nonzero_rem-rest : goal.nonzero_rem-rest
-nonzero_rem-rest c = rw (known c).whole (omega (arith, (known c).pos, (known c).twice))
-
-pub overflow_sub-result-2 : goal.overflow_sub-result-2
-overflow_sub-result-2 c = rw (known c).half (known c).pos
-
-pub overflow_add-result : goal.overflow_add-result
-overflow_add-result c = rw ((known c).whole, (known c).half) (omega (arith, (known c).rest, (known c).twice, (known c).most))
-
-pub overflow_add-result-2 : goal.overflow_add-result-2
-overflow_add-result-2 c = rw ((known c).whole, (known c).half) (omega (arith, (known c).rest, (known c).twice, (known c).most))
-
 pub overflow_add-result-3 : goal.overflow_add-result-3
 overflow_add-result-3 c = omega (arith, is c, (known c).up)
 

@@ -1,8 +1,9 @@
 -- `bits::settled64` meets its contract. Assumes nothing.
-use mathlib.Core.Path.{sym, ◌∙◌}
-use lib.Ieee.{binary64}
-use Rattle.rounding.proofs.Nan.{is-nan, quotient}
+use Rattle.std.proofs.Common.{sym, ◌∙◌}
+use lib.Ieee.{of_bits}
+use Rattle.rounding.proofs.Nan.{of_nan}
 use Rattle.bits.proofs.settled64.Goals as goal
 
-pub returns-then-x : goal.returns-then-x
-returns-then-x c = quotient binary64 ∙ sym (is-nan _ c.if-x.true)
+pub returns-then-is_nan : goal.returns-then-is_nan
+unfolding of_bits
+returns-then-is_nan c = sym (of_nan _ (sym c.is_nan.ensures.value ∙ c.if-is_nan.true))

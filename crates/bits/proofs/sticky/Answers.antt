@@ -2,32 +2,25 @@
 use mathlib.Core.Path.{◌≡◌, sym, ap, ◌∙◌}
 use Prim.Native.Nat.{ℕ, ◌%◌, ◌^◌}
 use native.Mathlib.Omega.{arith}
-use lib.Pow.{pow_pos, shr_le}
 use Rattle.rounding.proofs.Fused.{stick-whole}
-use Rattle.rounding.proofs.Machine.{one_shl, stick-some, stick-far, stick-far-zero}
+use Rattle.rounding.proofs.Machine.{one_shl, under_pow, stick-some, stick-far, stick-none}
 use Rattle.rounding.specs.Steps.{stick}
 use Rattle.bits.proofs.sticky.Goals as goal
 
 pub returns-then-x-eq0 : goal.returns-then-x-eq0
-returns-then-x-eq0 c = sym (ap (λ (x : ℕ). stick x c.args.s) c.if-x-eq0.true ∙ stick-far-zero c.args.s c.if-s-gt63.true)
+returns-then-x-eq0 c = sym (ap (λ (x : ℕ). stick x c.args.s) c.if-x-eq0.true ∙ stick-none c.args.s)
 
 pub returns-then-s-gt63 : goal.returns-then-s-gt63
-returns-then-s-gt63 c = sym (stick-far c.args.x c.args.s (omega arith) c.if-s-gt63.true c.if-x-eq0.false)
-
-pub nonzero_rem-x : goal.nonzero_rem-x
-nonzero_rem-x c = omega (arith, one_shl c.args.s (omega arith), pow_pos c.args.s)
+returns-then-s-gt63 c = sym (stick-far c.args.x c.args.s (under_pow 64 c.args.x c.args.s (omega arith) c.if-s-gt63.true) c.if-x-eq0.false)
 
 pub returns-then-x-s-eq0 : goal.returns-then-x-s-eq0
 returns-then-x-s-eq0 c =
     let x = c.args.x in
     let s = c.args.s in
-    sym (stick-whole x s (ap (λ (z : ℕ). x % z) (sym (one_shl s (omega arith))) ∙ c.if-x-s-eq0.true))
-
-pub overflow_add-result : goal.overflow_add-result
-overflow_add-result c = omega (arith, shr_le c.args.x c.args.s)
+    sym (stick-whole x s (ap (λ (z : ℕ). x % z) (sym (one_shl 64 s (omega arith))) ∙ c.if-x-s-eq0.true))
 
 pub returns : goal.returns
 returns c =
     let x = c.args.x in
     let s = c.args.s in
-    sym (stick-some x s (λ (e : x % 2 ^ s ≡ 0). c.if-x-s-eq0.false (ap (λ (z : ℕ). x % z) (one_shl s (omega arith)) ∙ e)))
+    sym (stick-some x s (λ (e : x % 2 ^ s ≡ 0). c.if-x-s-eq0.false (ap (λ (z : ℕ). x % z) (one_shl 64 s (omega arith)) ∙ e)))

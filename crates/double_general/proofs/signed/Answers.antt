@@ -1,22 +1,16 @@
 -- `double_general::signed` meets its contract. Assumes nothing.
-use mathlib.Core.Path.{sym, ap, ◌∙◌, subst}
-use Prim.Native.Nat.{ℕ, ◌+◌}
+use mathlib.Core.Path.{subst}
+use Prim.Native.Nat.{ℕ}
 use native.Mathlib.Omega.{arith}
-use mathlib.Core.Bool.{Bool, true, false, not, cond}
+use mathlib.Core.Bool.{true, false, not}
 use native.Mathlib.Nat.{zero-add}
 use lib.Dec.{T}
-use lib.Ieee.{binary64, of_bits, nan_bits}
+use lib.Ieee.{binary64, nan_bits}
 use Rattle.rounding.proofs.Terms.{no_nan}
 use Rattle.double_general.proofs.signed.Goals as goal
 
 pub float_from_bits-result : goal.float_from_bits-result
 float_from_bits-result c = no_nan binary64 true c.args.b (omega arith)
 
-pub returns-then-s : goal.returns-then-s
-returns-then-s c = ap (λ (x : Bool). of_bits binary64 (cond x 9223372036854775808 0 + c.args.b)) (sym c.if-s.true)
-
 pub float_from_bits-result-2 : goal.float_from_bits-result-2
 float_from_bits-result-2 c = subst (λ (x : ℕ). T (not (nan_bits binary64 x))) (zero-add c.args.b) (no_nan binary64 false c.args.b (omega arith))
-
-pub returns : goal.returns
-returns c = ap (λ (x : ℕ). of_bits binary64 x) (sym (zero-add c.args.b)) ∙ ap (λ (x : Bool). of_bits binary64 (cond x 9223372036854775808 0 + c.args.b)) (sym c.if-s.false)

@@ -1,5 +1,6 @@
 -- A leveller whose making was done is accepted after any calls, of f32s; and whatever 9 accepts is what some calls leave.
 -- Assumes nothing.
+use Rattle.std.specs.Prelude.{Option, Some, None}
 use mathlib.Core.Path.{◌≡◌, refl, ap, ◌∙◌}
 use mathlib.Core.Bool.{true, ◌&&◌}
 use mathlib.Core.List.{List, [], ◌∷◌}
@@ -22,8 +23,6 @@ use Rattle.leveller_settings.specs.Names.{named}
 use Rattle.leveller_settings.specs.declared.Settings.{Settings}
 use Rattle.leveller_settings.specs.declared.Setting.{Setting}
 use Rattle.leveller_settings.specs.declared.Setting.TheVariants.{Threshold, Ratio, Attack, Release, Makeup}
-use Rattle.leveller_settings.specs.declared.Named.{Named}
-use Rattle.leveller_settings.specs.declared.Named.TheVariants.{Known, Unknown}
 use Rattle.leveller_sample.specs.Step.{next}
 use Rattle.leveller_sample.specs.declared.Registers.{Registers}
 use Rattle.leveller.specs.Bounds.{acceptable}
@@ -51,9 +50,9 @@ whole-block s m (x ∷ xs) k f w =
     whole-block s (next s m x) xs one_more (and_r (fits binary32 x) (all_f32 xs) f) w.1
 
 -- a name's setting is made of the numbers beside it
-abbrev NamedF32 : Named → Type 0
-NamedF32 (Known t) = T (all_f32 (floats_of (SetTyped t)))
-NamedF32 Unknown = Unit {0}
+abbrev NamedF32 : Option Setting → Type 0
+NamedF32 (Some t) = T (all_f32 (floats_of (SetTyped t)))
+NamedF32 None = Unit {0}
 
 named-f32 : (name : List ℕ) (v w : Float) → T (all_f32 (v ∷ w ∷ [])) → NamedF32 (named name v w)
 unfolding named
@@ -78,10 +77,10 @@ module _ (l : Leveller) (k : Sound l) where
       by Keeps (worked t) k λ w.
       record { settable = set-settable l.settings t k.settable (and_i (in_its_range t) (worked t) r w, f); level = k.level }
 
-  found-keeps : (n : Named) → NamedF32 n → Keeps (set_found l n)
+  found-keeps : (n : Option Setting) → NamedF32 n → Keeps (set_found l n)
   unfolding set_found
-  found-keeps (Known t) f = typed-keeps t f
-  found-keeps Unknown f = k
+  found-keeps (Some t) f = typed-keeps t f
+  found-keeps None f = k
 
   call-keeps : (c : Call) → T (all_f32 (floats_of c)) → Keeps (answered l c)
   unfolding answered block set reset

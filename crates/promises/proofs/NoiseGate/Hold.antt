@@ -1,5 +1,6 @@
 -- What a gate's calls tell of the hold: a done hold setting its samples and a word, every other call neither.
 -- Assumes nothing.
+use Rattle.std.specs.Prelude.{Option, Some, None}
 use mathlib.Core.Path.{◌≡◌, refl, sym, ap}
 use mathlib.Core.Logic.{◌↔◌}
 use mathlib.Core.Bool.{Bool, true, false, not, cond}
@@ -21,8 +22,6 @@ use Rattle.noise_gate_settings.specs.Ranges.{in_its_range, worked, with_setting}
 use Rattle.noise_gate_settings.specs.Names.{named}
 use Rattle.noise_gate_settings.specs.declared.Setting.{Setting}
 use Rattle.noise_gate_settings.specs.declared.Setting.TheVariants.{Threshold, Ratio, Attack, Release, Hold}
-use Rattle.noise_gate_settings.specs.declared.Named.{Named}
-use Rattle.noise_gate_settings.specs.declared.Named.TheVariants.{Known, Unknown}
 use Rattle.noise_gate.specs.Bounds.{acceptable}
 use Rattle.noise_gate.specs.Calls.{gate_of, hold_told, set_typed, set_found, set, reset, block}
 use Rattle.noise_gate.specs.declared.Gate.{Gate}
@@ -91,10 +90,10 @@ module _ (g : Gate) where
       let k = hold-keeps ms in
       (k.0, λ n. ((k.1 n).0, ap (λ (z : Float). set_typed g (Hold z)) (sym (k.1 n).1)))
 
-  found : (n : Named) → Tells (set_found g n)
+  found : (n : Option Setting) → Tells (set_found g n)
   unfolding set_found
-  found (Known t) = typed t
-  found Unknown = neither refl refl
+  found (Some t) = typed t
+  found None = neither refl refl
 
   pub tells : (c : Call) → Tells (answered g c)
   unfolding answered block set reset

@@ -1,5 +1,6 @@
 -- What 9 accepts of settings is what making and calls can leave: every call keeps it, and five settings after a making give it.
 -- Assumes nothing.
+use Rattle.std.specs.Prelude.{Option, Some, None}
 use mathlib.Core.Path.{◌≡◌, refl, ap, ◌∙◌, subst}
 use mathlib.Core.Bool.{◌&&◌}
 use mathlib.Core.List.{List, [], ◌∷◌}
@@ -17,8 +18,6 @@ use Rattle.noise_gate_settings.specs.Names.{named}
 use Rattle.noise_gate_settings.specs.declared.Settings.{Settings}
 use Rattle.noise_gate_settings.specs.declared.Setting.{Setting}
 use Rattle.noise_gate_settings.specs.declared.Setting.TheVariants.{Threshold, Ratio, Attack, Release, Hold}
-use Rattle.noise_gate_settings.specs.declared.Named.{Named}
-use Rattle.noise_gate_settings.specs.declared.Named.TheVariants.{Known, Unknown}
 use Rattle.noise_gate.specs.Bounds.{in_bounds, acceptable}
 use Rattle.noise_gate.specs.Calls.{gate_of, at_rest, made_settings, make, set_typed, set_found, set, reset, block}
 use Rattle.noise_gate.specs.declared.Gate.{Gate}
@@ -74,10 +73,10 @@ module _ (g : Gate) (k : T (settable g.settings)) where
       by Keeps (worked t) k λ w.
       set-settable g.settings t k (and_i (in_its_range t) (worked t) r w)
 
-  found-keeps : (n : Named) → Keeps (set_found g n)
+  found-keeps : (n : Option Setting) → Keeps (set_found g n)
   unfolding set_found
-  found-keeps (Known t) = typed-keeps t
-  found-keeps Unknown = k
+  found-keeps (Some t) = typed-keeps t
+  found-keeps None = k
 
   call-keeps : (c : Call) → Keeps (answered g c)
   unfolding answered block set reset

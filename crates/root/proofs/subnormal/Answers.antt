@@ -20,17 +20,8 @@ near c = rw ((zeros-at c.before.before).shl-m, (steps-at c.before.before).shl-n)
 q-at : (c : goal.After-nearest_root-q) → c.nearest_root-q.result ≤ 16777216
 q-at c = q-most _ c.nearest_root-q.result (near c) (steps-at c.before.before).n-most
 
-pub overflow_cast-t : goal.overflow_cast-t
-overflow_cast-t c = let z = zeros-at c in omega arith
-
 pub overflow_sub-t : goal.overflow_sub-t
 overflow_sub-t c = (zeros-at c).least
-
-pub overflow_shl-m : goal.overflow_shl-m
-overflow_shl-m c = let z = zeros-at c in omega arith
-
-pub overflow_add-odd-2 : goal.overflow_add-odd-2
-overflow_add-odd-2 c = let z = zeros-at c in rw z.shl-m (omega arith)
 
 pub overflow_cast-odd : goal.overflow_cast-odd
 overflow_cast-odd c = let z = zeros-at c in rw z.shl-m (omega arith)
@@ -40,15 +31,6 @@ guess-g-requires c = let z = zeros-at c in rw z.shl-m (omega arith)
 
 pub nearest_root-q-requires : goal.nearest_root-q-requires
 nearest_root-q-requires c = let z = steps-at c.before in rw ((zeros-at c.before).shl-m, z.shl-n) record { n_least = z.n-least; n_bound = z.n-most; g_bound = c.guess-g.ensures }
-
-pub overflow_sub-result : goal.overflow_sub-result
-overflow_sub-result c = let z = steps-at c.before.before in omega arith
-
-pub overflow_sub-result-2 : goal.overflow_sub-result-2
-overflow_sub-result-2 c = let z = steps-at c.before.before in omega arith
-
-pub overflow_add-result : goal.overflow_add-result
-overflow_add-result c = let q = q-at c in omega arith
 
 pub overflow_cast-result : goal.overflow_cast-result
 overflow_cast-result c = let q = q-at c in omega arith

@@ -6,12 +6,12 @@ use lib.Ieee.Scale.{finite}
 use Rattle.rounding.specs.Fma.{fma}
 use Rattle.rounding.specs.Steps.{Summed}
 use Rattle.rounding.proofs.Terms.{finite-no-nan}
-use Rattle.rounding.proofs.Nearby.{unwrapped, ones-infinite, below-finite, none-zero}
+use Rattle.rounding.proofs.Nearby.{ones-infinite, below-finite, none-zero}
 use Rattle.rounding.proofs.WideSum.{finite-operands}
 use Rattle.rounding.proofs.ByWider.{wide-zero, wide-away, wide-tie, wide_fits, tie-no-nan}
 use Rattle.std.proofs.lemmas.Float.{T_from_true}
 use Rattle.single.proofs.rest.Goals as goal
-use Rattle.single.proofs.rest.Goals.{then-size-eq0-via-then-size-eq0, then-size-eq0-via-else-size-eq0+then-e-eq-ONES, then-wrapping_sub_u64-le-ABOVE+else-m-eq0, else-wrapping_sub_u64-le-ABOVE+else-size-eq0+else-e-eq-ONES}
+use Rattle.single.proofs.rest.Goals.{then-size-eq0-via-then-size-eq0, then-size-eq0-via-else-size-eq0+then-e-eq-ONES, then-e-le-ABOVE+else-m-eq0, else-e-le-ABOVE+else-size-eq0+else-e-eq-ONES}
 
 -- the field of an `f64`'s exponent
 abbrev field : Float → ℕ
@@ -37,16 +37,13 @@ operands {a = a} {b = b} {c = c} {s = s} m h =
     finite-operands a b c m.held-a m.held-b m.held-c (subst (λ (x : Float). T (finite x)) m.of.is (below-finite binary64 s m.held-s h))
 
 -- ---- the exponent is a normal `f32`'s, and not the largest
-inside : (r x : ℕ) → (r + 897) % 18446744073709551616 ≡ x → r ≤ 252 → (897 ≤ x) × (x ≤ 1149)
-inside r x e h = let u = unwrapped r 897 x 252 e h (omega arith) in (omega arith, omega arith)
-
-sum-inside : (c : goal.Then-wrapping_sub_u64-le-ABOVE) → Sum c.args.a c.args.b c.args.c c.args.s
+sum-inside : (c : goal.Then-e-le-ABOVE) → Sum c.args.a c.args.b c.args.c c.args.s
 sum-inside c = sum c.well_formed.0.1 c.well_formed.1.0.1 c.well_formed.1.1.0.1 c.well_formed.1.1.1.0.1 c.requires
 
-field-inside : (c : goal.Then-wrapping_sub_u64-le-ABOVE) → (897 ≤ field c.args.s) × (field c.args.s ≤ 1149)
-field-inside c = inside c.wrapping_sub_u64.result (field c.args.s) c.wrapping_sub_u64.ensures.value c.if-wrapping_sub_u64-le-ABOVE.true
+field-inside : (c : goal.Then-e-le-ABOVE) → (897 ≤ field c.args.s) × (field c.args.s ≤ 1149)
+field-inside c = (omega arith, omega arith)
 
-finite-inside : (c : goal.Then-wrapping_sub_u64-le-ABOVE) → Finite c.args.a c.args.b c.args.c
+finite-inside : (c : goal.Then-e-le-ABOVE) → Finite c.args.a c.args.b c.args.c
 finite-inside c = let i = (field-inside c).1 in operands (sum-inside c) (omega arith)
 
 pub overflow_add-m : goal.overflow_add-m
@@ -72,11 +69,11 @@ overflow_cast-z c = omega (arith, to_bits-lt binary32 c.args.c (sum-inside c).he
 
 pub float_from_bits-result : goal.float_from_bits-result
 float_from_bits-result c =
-    tie-no-nan _ (inside c.wrapping_sub_u64.result (field c.args.s) c.wrapping_sub_u64.ensures.value c.if-wrapping_sub_u64-le-ABOVE.true).1
+    tie-no-nan _ (omega arith)
 
 -- past the three tests the sum is halfway between two `f32`, and exact
 field-tied : (c : goal.After-row_known-1) → (897 ≤ field c.args.s) × (field c.args.s ≤ 1149)
-field-tied c = inside c.wrapping_sub_u64.result (field c.args.s) c.wrapping_sub_u64.ensures.value c.if-wrapping_sub_u64-le-ABOVE.true
+field-tied c = (omega arith, omega arith)
 
 tied : (c : goal.After-row_known-1) → let n = to_bits binary64 c.args.s in of_bits binary64 (n + 268435456 - (n + 268435456) % 1073741824) ≡ fma binary32 c.args.a c.args.b c.args.c
 tied c =
@@ -120,14 +117,14 @@ pub returns-then-size-eq0 : goal.returns-then-size-eq0
 returns-then-size-eq0 c = exact c
 
 -- ---- what is left is finite
-left : (c : goal.Joined-wrapping_sub_u64-le-ABOVE) → Finite c.args.a c.args.b c.args.c
+left : (c : goal.Joined-e-le-ABOVE) → Finite c.args.a c.args.b c.args.c
 left c =
     let m = sum c.well_formed.0.1 c.well_formed.1.0.1 c.well_formed.1.1.0.1 c.well_formed.1.1.1.0.1 c.requires in
-    elim c.if-wrapping_sub_u64-le-ABOVE.branch [
-      | then-wrapping_sub_u64-le-ABOVE+else-m-eq0 w ↦
-          let i = inside c.wrapping_sub_u64.result (field c.args.s) c.wrapping_sub_u64.ensures.value w.if-wrapping_sub_u64-le-ABOVE.true in
+    elim c.if-e-le-ABOVE.branch [
+      | then-e-le-ABOVE+else-m-eq0 w ↦
+          let i = w.if-e-le-ABOVE.true in
           operands m (omega arith)
-      | else-wrapping_sub_u64-le-ABOVE+else-size-eq0+else-e-eq-ONES w ↦
+      | else-e-le-ABOVE+else-size-eq0+else-e-eq-ONES w ↦
           let apart = w.if-e-eq-ONES.false in
           operands m (omega arith)
     ]

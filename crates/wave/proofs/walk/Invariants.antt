@@ -3,8 +3,8 @@ use Prim.Native.Nat.{◌-◌}
 use Rattle.wave.proofs.Budget.{Left}
 use Rattle.wave.proofs.walk.Given as goal
 
-abbrev pub invariant-loop-m : goal.invariant-loop-m
-invariant-loop-m l = Left l.s l.end l.at l.rate
+abbrev pub invariant-loop-next : goal.invariant-loop-next
+invariant-loop-next l = Left l.s l.end l.here.at l.here.rate
 
-abbrev pub decreases-loop-m : goal.decreases-loop-m
-decreases-loop-m l = l.end - l.at
+abbrev pub decreases-loop-next : goal.decreases-loop-next
+decreases-loop-next l = l.end - l.here.at

@@ -6,6 +6,4 @@ use Rattle.wave_write.proofs.Over.{behind}
 use Rattle.wave_write.proofs.put_file.Goals as goal
 
 pub returns : goal.returns
-returns c =
-    let a = c.args in
-    behind (head a.rate (length a.samples.now)) a.samples.now _ a.output.now _ refl c.put_head.ensures c.copy_from_slice.ensures.after
+returns c = let a = c.args in behind (head a.rate (length a.samples.now)) a.samples.now a.output.now _ _ refl (rw c.head.ensures at c.put.ensures) c.put-2.ensures

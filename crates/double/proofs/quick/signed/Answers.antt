@@ -1,17 +1,11 @@
 -- `double::quick::signed` meets its contract. Assumes nothing.
-use Rattle.std.proofs.Common.{ℕ, ◌+◌, Bool, true, false, cond, not, T, sym, ap, ◌∙◌, subst, zero-add, arith}
-use lib.Ieee.{binary64, of_bits, nan_bits}
+use Rattle.std.proofs.Common.{ℕ, true, false, not, T, subst, zero-add, arith}
+use lib.Ieee.{binary64, nan_bits}
 use Rattle.rounding.proofs.Terms.{no_nan}
 use Rattle.double.proofs.quick.signed.Goals as goal
 
 pub float_from_bits-result : goal.float_from_bits-result
 float_from_bits-result c = no_nan binary64 true c.args.b (omega arith)
 
-pub returns-then-s : goal.returns-then-s
-returns-then-s c = ap (λ (x : Bool). of_bits binary64 (cond x 9223372036854775808 0 + c.args.b)) (sym c.if-s.true)
-
 pub float_from_bits-result-2 : goal.float_from_bits-result-2
 float_from_bits-result-2 c = subst (λ (x : ℕ). T (not (nan_bits binary64 x))) (zero-add c.args.b) (no_nan binary64 false c.args.b (omega arith))
-
-pub returns : goal.returns
-returns c = ap (λ (x : ℕ). of_bits binary64 x) (sym (zero-add c.args.b)) ∙ ap (λ (x : Bool). of_bits binary64 (cond x 9223372036854775808 0 + c.args.b)) (sym c.if-s.false)

@@ -1,18 +1,17 @@
 -- `float::casts::size64` meets its contract. Assumes nothing.
-use Rattle.std.proofs.Common.{T, sym, ◌∙◌, subst}
-use lib.Ieee.{binary64}
-use Rattle.rounding.proofs.Nan.{is-nan, not-nan, quotient}
+use Rattle.std.proofs.Common.{sym}
+use lib.Ieee.{binary64, of_bits}
+use Rattle.rounding.proofs.Nan.{of_nan}
 use Rattle.rounding.proofs.Casts.{absolute-is, absolute-nan, absolute-no-nan}
+use Rattle.std.proofs.lemmas.Float.{T_from_true}
 use Rattle.float.proofs.casts.size64.Goals as goal
 
-pub returns-then-x : goal.returns-then-x
-returns-then-x c = quotient binary64 ∙ sym (is-nan c.args.x c.if-x.true) ∙ absolute-nan c.args.x (is-nan c.args.x c.if-x.true)
-
-pub float_to_bits-result : goal.float_to_bits-result
-float_to_bits-result c = not-nan c.args.x c.if-x.false
+pub returns-then-is_nan : goal.returns-then-is_nan
+unfolding of_bits
+returns-then-is_nan c = absolute-nan c.args.x (of_nan _ (sym c.if-is_nan.ensures.value))
 
 pub float_from_bits-result : goal.float_from_bits-result
-float_from_bits-result c = absolute-no-nan binary64 c.args.x (subst T (sym c.well_formed.0.1) tt) (not-nan c.args.x c.if-x.false)
+float_from_bits-result c = absolute-no-nan binary64 c.args.x (T_from_true _ c.well_formed.0.1) c.if-is_nan.ensures.not_nan
 
 pub returns : goal.returns
-returns c = absolute-is binary64 c.args.x (subst T (sym c.well_formed.0.1) tt)
+returns c = absolute-is binary64 c.args.x (T_from_true _ c.well_formed.0.1)

@@ -4,4 +4,4 @@ use Rattle.float.specs.Truncating.{number}
 use Rattle.hoofglaze.proofs.arithmetic.hoofglaze_truncated.Goals as goal
 
 pub returns : goal.returns
-returns c = let t = c.truncated-t.ensures in (t.0, c.word_number.ensures ∙ ap number t.1)
+returns c = let t = c.truncated-t.ensures in (t.0, c.into.ensures ∙ ap number t.1)

@@ -1,6 +1,7 @@
 -- `hoofglaze::equalise::hoofglaze_eq_make` meets its contract. Assumes nothing.
-use mathlib.Core.Path.{◌∙◌}
+use Rattle.std.proofs.Common.{◌∙◌}
+use Rattle.answer.proofs.Answers.{answer-crosses}
 use Rattle.hoofglaze.proofs.equalise.hoofglaze_eq_make.Goals as goal
 
 pub returns : goal.returns
-returns c = c.crossed.ensures ∙ c.make.ensures
+returns c = answer-crosses _ _ c.into.ensures ∙ c.made-answer.ensures ∙ rw c.unmade.ensures c.make.ensures

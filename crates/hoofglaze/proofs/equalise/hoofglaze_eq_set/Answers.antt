@@ -1,6 +1,7 @@
 -- `hoofglaze::equalise::hoofglaze_eq_set` meets its contract. Assumes nothing.
-use mathlib.Core.Path.{◌∙◌}
+use Rattle.std.proofs.Common.{◌∙◌}
+use Rattle.hoofglaze.proofs.Answers.{done-crosses}
 use Rattle.hoofglaze.proofs.equalise.hoofglaze_eq_set.Goals as goal
 
 pub returns : goal.returns
-returns c = c.crossed.ensures ∙ c.set.ensures
+returns c = done-crosses _ _ c.into-answer.ensures ∙ c.set.ensures

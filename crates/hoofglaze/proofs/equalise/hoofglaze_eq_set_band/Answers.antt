@@ -1,6 +1,7 @@
 -- `hoofglaze::equalise::hoofglaze_eq_set_band` meets its contract. Assumes nothing.
-use mathlib.Core.Path.{◌∙◌}
+use Rattle.std.proofs.Common.{◌∙◌}
+use Rattle.hoofglaze.proofs.Answers.{done-crosses}
 use Rattle.hoofglaze.proofs.equalise.hoofglaze_eq_set_band.Goals as goal
 
 pub returns : goal.returns
-returns c = c.crossed.ensures ∙ c.set_band.ensures
+returns c = done-crosses _ _ c.into-answer.ensures ∙ c.set_typed.ensures

@@ -1,8 +1,7 @@
 -- `hoofglaze::lone::hoofglaze_blocker_make` meets its contract. Assumes nothing.
-use mathlib.Core.Path.{ap, ◌∙◌}
-use Rattle.answer.specs.Crossing.{told_in}
+use Rattle.std.proofs.Common.{◌∙◌}
 use Rattle.answer.proofs.Answers.{answer-crosses}
 use Rattle.hoofglaze.proofs.lone.hoofglaze_blocker_make.Goals as goal
 
 pub returns : goal.returns
-returns c = ap (told_in _) c.of_answer.ensures ∙ answer-crosses _ c.make-r.result.answer ∙ c.make-r.ensures
+returns c = answer-crosses _ _ c.into.ensures ∙ c.made-answer.ensures ∙ rw c.unmade.ensures c.make.ensures

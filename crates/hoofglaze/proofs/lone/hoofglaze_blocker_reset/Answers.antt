@@ -1,8 +1,7 @@
 -- `hoofglaze::lone::hoofglaze_blocker_reset` meets its contract. Assumes nothing.
-use mathlib.Core.Path.{ap, ◌∙◌}
-use Rattle.answer.specs.Crossing.{told_in}
+use Rattle.std.proofs.Common.{◌∙◌}
 use Rattle.answer.proofs.Answers.{answer-crosses}
 use Rattle.hoofglaze.proofs.lone.hoofglaze_blocker_reset.Goals as goal
 
 pub returns : goal.returns
-returns c = ap (told_in _) c.of_answer.ensures ∙ answer-crosses _ c.reset-r.result.answer ∙ c.reset-r.ensures
+returns c = answer-crosses _ _ c.into.ensures ∙ c.reset-answer.ensures

@@ -1,4 +1,5 @@
 -- `tonestack_sample::alpha::alpha` meets its contract. Assumes nothing.
+use Rattle.std.proofs.Common.{rules}
 use lib.Ieee.{of_bits}
 use Rattle.answer.specs.Figures.{f32}
 use Rattle.tonestack_sample.specs.Alpha.{alpha}
@@ -6,4 +7,4 @@ use Rattle.tonestack_sample.proofs.alpha.alpha.Goals as goal
 
 pub returns : goal.returns
 unfolding alpha f32 of_bits
-returns c = rw c.settled32.ensures
+returns c = search rules

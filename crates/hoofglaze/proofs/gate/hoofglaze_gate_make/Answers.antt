@@ -1,6 +1,0 @@
--- `hoofglaze::gate::hoofglaze_gate_make` meets its contract. Assumes nothing.
-use mathlib.Core.Path.{◌∙◌}
-use Rattle.hoofglaze.proofs.gate.hoofglaze_gate_make.Goals as goal
-
-pub returns : goal.returns
-returns c = c.crossed.ensures ∙ c.make.ensures

@@ -1,6 +1,0 @@
--- `hoofglaze::levelling::hoofglaze_leveller_reset` meets its contract. Assumes nothing.
-use mathlib.Core.Path.{◌∙◌}
-use Rattle.hoofglaze.proofs.levelling.hoofglaze_leveller_reset.Goals as goal
-
-pub returns : goal.returns
-returns c = c.crossed.ensures ∙ c.reset.ensures

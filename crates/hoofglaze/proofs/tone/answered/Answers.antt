@@ -1,0 +1,6 @@
+-- `hoofglaze::tone::answered` meets its contract. Assumes nothing.
+use Rattle.answer.proofs.Answers.{answer-crosses}
+use Rattle.hoofglaze.proofs.tone.answered.Goals as goal
+
+pub returns : goal.returns
+returns c = answer-crosses _ _ c.into.ensures

@@ -1,8 +1,0 @@
--- `leveller_settings::names::find` meets its contract. Assumes nothing.
-use Rattle.leveller_settings.specs.Names.{named}
-use Rattle.leveller_settings.proofs.names.find.Goals as goal
-
-pub returns : goal.returns
-unfolding named
-returns c =
-    rw (c.row.ensures, c.row-ratio.ensures, c.row-attack.ensures, c.row-release.ensures, c.row-makeup.ensures)

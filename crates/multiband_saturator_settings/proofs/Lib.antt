@@ -1,2 +1,0 @@
--- What a name asks for, by its place.
-pub mod Places

@@ -1,9 +1,0 @@
--- `multiband_saturator_settings::names::row` meets its contract. Assumes nothing.
-use mathlib.Core.Path.{sym, ◌∙◌}
-use Rattle.multiband_saturator_settings.proofs.names.row.Goals as goal
-
-pub returns-then-same : goal.returns-then-same
-returns-then-same c = rw (sym c.same.ensures ∙ c.if-same.true)
-
-pub returns-else-same : goal.returns-else-same
-returns-else-same c = rw (sym c.same.ensures ∙ c.if-same.false)

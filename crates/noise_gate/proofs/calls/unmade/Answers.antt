@@ -1,7 +1,0 @@
--- `noise_gate::calls::unmade` meets its contract. Assumes nothing.
-use lib.Ieee.{of_bits}
-use Rattle.noise_gate.proofs.calls.unmade.Goals as goal
-
-pub returns : goal.returns
-unfolding of_bits
-returns c = c.refused.ensures

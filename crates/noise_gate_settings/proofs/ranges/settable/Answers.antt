@@ -1,8 +1,0 @@
--- `noise_gate_settings::ranges::settable` meets its contract. Assumes nothing.
-use Rattle.noise_gate_settings.specs.Ranges.{settable}
-use Rattle.noise_gate_settings.proofs.ranges.settable.Goals as goal
-
-pub returns : goal.returns
-unfolding settable
-returns c =
-    rw (c.both.ensures, c.is_rate.ensures, c.both-threshold.ensures, c.allowed-5.ensures, c.both-ratio.ensures, c.allowed-4.ensures, c.both-attack.ensures, c.allowed-3.ensures, c.both-release.ensures, c.allowed-2.ensures, c.both-hold.ensures, c.allowed.ensures, c.both-smoothing.ensures, c.is_smoothing-2.ensures, c.is_smoothing.ensures)

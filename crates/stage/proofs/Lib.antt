@@ -1,0 +1,1 @@
+-- No law: each stage proves its own (specs/AsStage.antt).

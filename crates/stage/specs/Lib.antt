@@ -1,0 +1,3 @@
+-- What every call of every stage does.
+pub mod Calls
+pub mod Vetting

@@ -1,0 +1,2 @@
+-- The models' numbers.
+pub mod Models
