@@ -1,9 +1,11 @@
 -- What a call tells gives its state and its answer back: no two answers tell the same, in words or in the numbers that cross to a host.
 -- Assumes nothing.
-use Rattle.std.specs.Prelude.{Float, Result, Ok, Err, MatchResult, ⊤}
+use Rattle.std.specs.Prelude.{ℕ, Float, Result, Ok, Err, MatchResult, ⊤}
 use mathlib.Core.Path.{◌≡◌, refl, sym, ap}
-use Rattle.answer.specs.Told.{Told, told, told_read}
-use Rattle.answer.specs.Crossing.{told_in, of_refusal, of_done}
+use Rattle.float.specs.Truncating as truncating
+use Rattle.float.specs.declared.Truncation.{Truncation}
+use Rattle.answer.specs.Told.{Told, done_hold, done_passed, told, told_read}
+use Rattle.answer.specs.Crossing.{told_in, of_refusal, of_done, of_hold, of_passed}
 use Rattle.answer.specs.Figures.{nought}
 use Rattle.answer.specs.declared.Numbered.{Numbered}
 use Rattle.answer.specs.declared.Refusal.{Refusal}
@@ -25,6 +27,15 @@ module _ {S : Type 0} {s t : S} where
       (ap (λ (w : Told S). w.state) e, ap Err (one-to-one q r (ap (λ (w : Told S). w.number) e) (ap (λ (w : Told S). w.place) e)))
 
 -- ---- an answer that crosses tells what the answer tells
+module _ {S : Type 0} (s : S) where
+  pub hold-crosses : (t : Truncation) → told_in s (of_hold t) ≡ done_hold s t.whole (truncating.number t.word)
+  unfolding of_hold
+  hold-crosses t = refl
+
+  pub passed-crosses : (count quiet : ℕ) → told_in s (of_passed count quiet) ≡ done_passed s count quiet
+  unfolding of_passed
+  passed-crosses count quiet = refl
+
 module _ {S : Type 0} (s : S) {n : Numbered} where
   pub answer-crosses : (a : Result ⊤ Refusal) → MatchResult a (λ _. n ≡ of_done 0 nought) (λ r. n ≡ of_refusal r) → told_in s n ≡ told s a
   unfolding of_done of_refusal

@@ -1,21 +1,19 @@
 -- The samples that are refused: exactly those whose size is not at most 64. The first refused one: every sample before it is accepted, and it is not.
 -- Assumes nothing.
-use mathlib.Core.Path.{◌≡◌, refl, sym, ◌∙◌, ap}
+use mathlib.Core.Path.{◌≡◌, refl, sym, ◌∙◌}
 use mathlib.Core.Bool.{Bool, true, false, not, ◌&&◌, ◌||◌, cond, true≢false}
 use mathlib.Core.List.{List, [], ◌∷◌}
 use mathlib.Core.Logic.{inl, inr}
-use Prim.Native.Nat.{ℕ, zero, suc, ◌*◌, ◌≤◌, ◌<◌, zero-le, suc-le-suc}
+use Prim.Native.Nat.{ℕ, zero, suc, ◌+◌, ◌*◌, ◌≤◌, ◌<◌, zero-le, suc-le-suc}
 use native.Mathlib.Nat.{le_of_lt, le_of_eq, le_of_suc-le-suc, not-suc-le-zero, eq-or-lt_of_le}
 use native.Mathlib.Omega.{arith}
-use lib.Dec.{T, eqb, ltb, leb}
+use lib.Dec.{T, eqb, ltb}
 use lib.ListN.{length, get_or}
 use lib.Ieee.{Float, nan, inf, fin, up, down, le}
-use borrow.Author.Tests.{lt-leb, le-leb, ltb-true, ltb-false, lt-ltb, le-ltb, eq-eqb, ne_eqb}
+use borrow.Author.Tests.{ltb-true, ltb-false, lt-ltb, le-ltb, eq-eqb, ne_eqb}
 use Rattle.rounding.specs.Casts.{absolute}
 use Rattle.answer.specs.Figures.{f32, largest_sample}
-use Rattle.answer.specs.Checks.{is_refused, first_refused, where_refused}
-use Rattle.std.specs.Prelude.{Option, Some, None}
-use Rattle.std.proofs.lemmas.List.Recursion.{is_position_or_len}
+use Rattle.answer.specs.Checks.{is_refused, first_refused}
 
 -- ---- one sample
 larger : (a b : ℕ) → ltb a b ≡ not (ltb b a || (eqb b a && true))
@@ -71,22 +69,16 @@ at_first (x ∷ xs) d h = go (is_refused x) refl h (at_first xs d)
     go true e h next = e
     go false e h next = next (le_of_suc-le-suc h)
 
--- ---- where there is one
-where-first : (xs : List Float) → where_refused xs ≡ cond (ltb (first_refused xs) (length xs)) (Some (first_refused xs)) None
-unfolding first_refused
-where-first xs = rw (is_position_or_len first_refused is_refused refl (λ x xs. ap (λ n. cond (is_refused x) 0 n) (omega arith)) xs)
+-- ---- the scan: none of the first i samples is refused
+module _ (xs : List Float) {i : ℕ} (d : Float) (passed : i ≤ first_refused xs) where
+  pub onward : i < length xs → is_refused (get_or xs i d) ≡ false → i + 1 ≤ first_refused xs
+  onward h e = elim (eq-or-lt_of_le passed) [
+    | inl p ↦ absurd (true≢false (sym (at_first xs d (omega (arith, p, h))) ∙ rw (sym p) e))
+    | inr l ↦ omega (arith, l)
+  ]
 
-module _ (xs : List Float) where
-  found : (b : Bool) → ltb (first_refused xs) (length xs) ≡ b → {o : Option ℕ} → o ≡ cond b (Some (first_refused xs)) None → (i : ℕ) → o ≡ Some i → (leb (length xs) (first_refused xs) ≡ false) × (i ≡ first_refused xs)
-  found true h e i f = (lt-leb _ _ (ltb-true _ _ h), cc)
-  found false h e i f = absurd cc
-
-  pub some-first : (i : ℕ) → where_refused xs ≡ Some i → (leb (length xs) (first_refused xs) ≡ false) × (i ≡ first_refused xs)
-  some-first i e = found (ltb (first_refused xs) (length xs)) refl (where-first xs) i e
-
-  none : (b : Bool) → ltb (first_refused xs) (length xs) ≡ b → {o : Option ℕ} → o ≡ cond b (Some (first_refused xs)) None → o ≡ None → leb (length xs) (first_refused xs) ≡ true
-  none true h e f = absurd cc
-  none false h e f = le-leb _ _ (ltb-false _ _ h)
-
-  pub none-first : where_refused xs ≡ None → leb (length xs) (first_refused xs) ≡ true
-  none-first e = none (ltb (first_refused xs) (length xs)) refl (where-first xs) e
+  pub found : is_refused (get_or xs i d) ≡ true → i ≡ first_refused xs
+  found e = elim (eq-or-lt_of_le passed) [
+    | inl p ↦ p
+    | inr l ↦ absurd (true≢false (sym e ∙ before-first xs i d l))
+  ]

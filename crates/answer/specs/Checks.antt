@@ -1,7 +1,6 @@
 -- What every stage checks: a rate, a worked number, a value, a block. Definitions only.
 -- Assumes nothing.
-use Rattle.std.specs.Prelude.{ℕ, zero, suc, Bool, not, ◌&&◌, ◌||◌, cond, List, [], ◌∷◌, eqb, leb, length, Float, Option, Result, Ok, Err, ⊤}
-use Rattle.std.specs.List.{position}
+use Rattle.std.specs.Prelude.{ℕ, zero, suc, Bool, not, ◌&&◌, ◌||◌, cond, List, [], ◌∷◌, eqb, leb, length, Float, Result, Ok, Err, ⊤}
 use Rattle.std.specs.Float.{binary32}
 use Rattle.std.specs.Float.Ieee.{lt, le, whole}
 use Rattle.std.specs.Float.Ieee.Scale.{finite}
@@ -39,10 +38,6 @@ is_refused x = not (finite x) || lt (f32 largest_sample 1) (absolute x)
 unfoldable pub first_refused : List Float → ℕ
 first_refused [] = zero
 first_refused (x ∷ xs) = cond (is_refused x) zero (suc (first_refused xs))
-
--- that place, where there is one
-abbrev pub where_refused : List Float → Option ℕ
-where_refused xs = position is_refused xs
 
 -- a block's samples, and how many places its output has: 7, 8, 6
 unfoldable pub check_block : List Float → ℕ → Result ⊤ Refusal

@@ -28,6 +28,17 @@ impl From<Refusal> for Numbered {
     }
 }
 
+// Done, with how many samples were aimed open, and a value read or stepped.
+pub fn of_done(count: usize, value: f32) -> Numbered
+    ensures { result ≡ crossing.of_done count value }
+{
+    Numbered {
+        value: settled32(value),
+        count,
+        ..DONE
+    }
+}
+
 // Done, with no more to say.
 impl From<()> for Numbered {
     ghost from_gives = { λ _ n. n ≡ crossing.of_done 0 nought };
@@ -42,10 +53,7 @@ impl From<f32> for Numbered {
     ghost from_gives = { λ x n. n ≡ crossing.of_done 0 x };
 
     fn from(value: f32) -> Numbered {
-        Numbered {
-            value: settled32(value),
-            ..DONE
-        }
+        of_done(0, value)
     }
 }
 

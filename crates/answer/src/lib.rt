@@ -9,6 +9,7 @@ ghost use Rattle.answer.specs.Checks as checks;
 ghost use Rattle.answer.specs.Names as names;
 ghost use Rattle.answer.specs.Refusals as refusals;
 
+pub use crossing::of_done;
 use float::Exactness;
 pub use float::settled32;
 
@@ -159,11 +160,18 @@ pub fn is_refused(x: f32) -> bool
     !(float::size32(x) <= LARGEST_SAMPLE)
 }
 
-// The place of the first sample that is refused.
-pub fn first_refused(samples: &[f32]) -> Option<usize>
-    ensures { result ≡ checks.where_refused samples.now }
+// The place of the first sample that is refused, or the end where there is none.
+pub fn first_refused(samples: &[f32]) -> usize
+    ensures { result ≡ checks.first_refused samples.now }
 {
-    samples.iter().position(|x| is_refused(*x))
+    let mut place = samples.len();
+    for (i, x) in samples.iter().enumerate() {
+        if is_refused(*x) {
+            place = i;
+            break;
+        }
+    }
+    place
 }
 
 // A block's samples beside the length of the buffer for its output: 7, 8, 6.
@@ -176,10 +184,11 @@ pub fn check_block(samples: &[f32], places: usize) -> Result<(), Refusal>
     if samples.len() > LONGEST_BLOCK {
         return Err(Refusal::TooLong);
     }
-    match first_refused(samples) {
-        Some(place) => Err(Refusal::BadSample(place)),
-        None => Ok(()),
+    let place = first_refused(samples);
+    if place < samples.len() {
+        return Err(Refusal::BadSample(place));
     }
+    Ok(())
 }
 
 // Whether two byte strings are equal.

@@ -31,7 +31,8 @@ pub fn block(kind: Kind, drive: f32, input: &[f32], output: &mut [f32]) -> Resul
     if !answer::finite32(drive) {
         return Err(Refusal::OutOfRange);
     }
-    if let Some(place) = answer::first_refused(input) {
+    let place = answer::first_refused(input);
+    if place < input.len() {
         return Err(Refusal::BadSample(place));
     }
     process_all(kind, drive, input, output);
