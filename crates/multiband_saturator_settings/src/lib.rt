@@ -4,6 +4,8 @@
 mod names;
 mod ranges;
 
+pub use ranges::lent;
+
 // A filter's five worked numbers.
 #[repr(C)]
 #[derive(Clone, Copy)]

@@ -131,6 +131,18 @@ impl Bands {
     }
 }
 
+// Whether the numbers that making is lent are acceptable.
+#[tactic(auto, unfolding(crate::specs::Ranges::lent))]
+pub fn lent(low: Crossover, high: Crossover, attack: f32, release: f32, blocker: f32) -> bool
+    ensures { result ≡ Ranges.lent low high attack release blocker }
+{
+    low.finite()
+        && high.finite()
+        && is_smoothing(attack)
+        && is_smoothing(release)
+        && is_smoothing(blocker)
+}
+
 impl Settings {
     // Takes t, its NaNs settled; the others stay as they are.
     #[tactic(auto, unfolding(crate::specs::Ranges::with_setting))]
@@ -151,16 +163,11 @@ impl Settings {
         }
     }
 
-    // Whether the numbers that making is lent are acceptable.
-    #[tactic(auto, unfolding(crate::specs::Ranges::lent))]
+    // Whether those of its numbers that making is lent are acceptable.
     pub fn lent(&self) -> bool
         ensures { result ≡ Ranges.lent self.now.low self.now.high self.now.attack self.now.release self.now.blocker }
     {
-        self.low.finite()
-            && self.high.finite()
-            && is_smoothing(self.attack)
-            && is_smoothing(self.release)
-            && is_smoothing(self.blocker)
+        lent(self.low, self.high, self.attack, self.release, self.blocker)
     }
 
     // Whether the settings, the rate and the worked numbers could have been set or made.

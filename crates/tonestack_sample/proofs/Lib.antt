@@ -1,2 +1,3 @@
--- What is a number.
+-- What is a number; the alphas worked out once.
 pub mod Numbers
+pub mod Once
