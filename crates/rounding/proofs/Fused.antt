@@ -11,7 +11,7 @@ use lib.Pow.{pow-add, pow_pos, pow_mono, shl_lt}
 use lib.Ieee.{Format, binary32, binary64, prec, low, sum, round}
 use lib.Ieee.Bits.{is_true, is_false}
 use Rattle.rounding.specs.Steps.{Sticky, stick}
-use Rattle.rounding.proofs.Sticky.{sticky-add, sticky-less, sticky-from, under-even, over-even}
+use Rattle.rounding.proofs.Sticky.{sticky-add, sticky-less, sticky-from, sticky-twice, sticky-unique, under-even, over-even}
 use Rattle.rounding.proofs.Round.{round-sticky}
 use Rattle.rounding.proofs.Closest.{le-or-lt}
 
@@ -37,6 +37,12 @@ stick-is a s = go (eqb (a % 2 ^ s) 0) (eqb→eq (a % 2 ^ s) 0) (λ (h : a % 2 ^ 
     go : (b : Bool) → (T b → a % 2 ^ s ≡ 0) → (a % 2 ^ s ≡ 0 → T b) → Sticky (cond b (a / 2 ^ s) (a / 2 ^ s + (1 - a / 2 ^ s % 2))) a (2 ^ s)
     go true h k = let z = h tt in inl (omega (arith, whole))
     go false h k = cut-odd a (2 ^ s) (a / 2 ^ s) (a % 2 ^ s) whole (some (a % 2 ^ s) k) (mod-lt a (pow_pos s))
+
+pub stick-twice : (a i j : ℕ) → stick (stick a i) j ≡ stick a (j + i)
+stick-twice a i j =
+    sticky-unique (stick (stick a i) j) (stick a (j + i)) a (2 ^ (j + i)) (pow_pos (j + i))
+    (subst (λ (z : ℕ). Sticky (stick (stick a i) j) a z) (sym (pow-add 2 j i)) (sticky-twice (stick (stick a i) j) (stick a i) a (2 ^ i) (2 ^ j) (pow_pos i) (stick-is a i) (stick-is (stick a i) j)))
+    (stick-is a (j + i))
 
 pub stick-le : (a s : ℕ) → stick a s ≤ a / 2 ^ s + 1
 unfolding stick

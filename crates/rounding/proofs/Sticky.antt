@@ -3,7 +3,7 @@
 use mathlib.Core.Path.{◌≡◌, refl, sym, ap, ◌∙◌, subst}
 use mathlib.Core.Logic.{inl, inr}
 use Prim.Native.Nat.{ℕ, zero, suc, ◌+◌, ◌-◌, ◌*◌, ◌/◌, ◌%◌, ◌≤◌, ◌<◌}
-use native.Mathlib.Nat.{le_trans, le_of_eq, mul_comm, mul_assoc, mul_left_comm, add-mul, mul-add, mul-sub, one-mul, mul-le-mul_right, mul-lt-mul_of_pos_right, mul-pos, mod-lt, div-add-mod'}
+use native.Mathlib.Nat.{le_trans, le_of_eq, lt_of_le_of_lt, mul_comm, mul_assoc, mul_left_comm, add-mul, mul-add, mul-sub, one-mul, mul-le-mul_right, mul-lt-mul_of_pos_right, mul-pos, mod-lt, div-add-mod', eq_of_mul-eq-mul_right, lt_of_mul-lt-mul_right}
 use native.Mathlib.Omega.{arith}
 use lib.Ieee.Nearest.{closest, closest_same}
 use Rattle.rounding.specs.Steps.{Sticky}
@@ -136,3 +136,42 @@ odd_factor M h i e = go (M % 2) refl
         let y : M ≡ 2 * (M / 2) + 1 = omega arith in
         let x : M * h ≡ 2 * (M / 2 * h) + h = ap (λ (z : ℕ). z * h) y ∙ add-mul (2 * (M / 2)) 1 h ∙ ap (λ (z : ℕ). z + 1 * h) (mul_assoc 2 (M / 2) h) ∙ ap (λ (z : ℕ). 2 * (M / 2 * h) + z) (one-mul h) in
         (y, omega arith)
+
+pub sticky-twice : (M N A g h : ℕ) → 0 < g → Sticky N A g → Sticky M N h → Sticky M A (h * g)
+sticky-twice M N A g h g0 (inl e) (inl f) = inl (sym (mul_assoc M h g) ∙ ap (λ (z : ℕ). z * g) f ∙ e)
+sticky-twice M N A g h g0 (inr (i, e, lo, hi)) (inl f) =
+    let q = odd_factor M h i (f ∙ e) in
+    let m = M / 2 in
+    let a : 2 * (m * h) * g ≡ 2 * m * (h * g) = ap (λ (z : ℕ). z * g) (sym (mul_assoc 2 m h)) ∙ mul_assoc (2 * m) h g in
+    let b : (2 * (m * h) + 2 * h) * g ≡ (2 * m + 2) * (h * g) = ap (λ (z : ℕ). z * g) (ap (λ (z : ℕ). z + 2 * h) (sym (mul_assoc 2 m h)) ∙ sym (add-mul (2 * m) 2 h)) ∙ mul_assoc (2 * m + 2) h g in
+    let l : 2 * (m * h) * g ≤ 2 * i * g = times-le (2 * (m * h)) (2 * i) g (omega (arith, q.1)) in
+    let u : (2 * i + 2) * g ≤ (2 * (m * h) + 2 * h) * g = times-le (2 * i + 2) (2 * (m * h) + 2 * h) g (omega (arith, q.1)) in
+    inr (m, q.0, omega arith, omega arith)
+sticky-twice M N A g h g0 s (inr (i, f, lo, hi)) =
+    let a : 2 * (i * h) * g ≡ 2 * i * (h * g) = ap (λ (z : ℕ). z * g) (sym (mul_assoc 2 i h)) ∙ mul_assoc (2 * i) h g in
+    let b : 2 * (suc i * h) * g ≡ (2 * i + 2) * (h * g) = ap (λ (z : ℕ). z * g) (sym (mul_assoc 2 (suc i) h)) ∙ mul_assoc (2 * suc i) h g ∙ ap (λ (z : ℕ). z * (h * g)) (twice-suc i) in
+    let l : 2 * (i * h) < N = subst (λ (z : ℕ). z < N) (mul_assoc 2 i h) lo in
+    let u : N < 2 * (suc i * h) = subst (λ (z : ℕ). N < z) (ap (λ (z : ℕ). z * h) (sym (twice-suc i)) ∙ mul_assoc 2 (suc i) h) hi in
+    inr (i, f, subst (λ (z : ℕ). z < A) a (over-even N A g (i * h) g0 s l), subst (λ (z : ℕ). A < z) b (under-even N A g (suc i * h) g0 s u))
+  where
+    twice-suc : (x : ℕ) → 2 * suc x ≡ 2 * x + 2
+    twice-suc x = omega arith
+
+-- ---- what `Sticky` says of n is said of no other
+pub sticky-unique : (n m a g : ℕ) → 0 < g → Sticky n a g → Sticky m a g → n ≡ m
+sticky-unique n m a g g0 (inl e) (inl f) = eq_of_mul-eq-mul_right g g0 n m (e ∙ sym f)
+sticky-unique n m a g g0 (inl e) (inr (h, f, lo, hi)) =
+    let x : 2 * h < n = lt_of_mul-lt-mul_right g (subst (λ (z : ℕ). 2 * h * g < z) (sym e) lo) in
+    let y : n < 2 * h + 2 = lt_of_mul-lt-mul_right g (subst (λ (z : ℕ). z < (2 * h + 2) * g) (sym e) hi) in
+    omega arith
+sticky-unique n m a g g0 (inr (h, f, lo, hi)) (inl e) =
+    let x : 2 * h < m = lt_of_mul-lt-mul_right g (subst (λ (z : ℕ). 2 * h * g < z) (sym e) lo) in
+    let y : m < 2 * h + 2 = lt_of_mul-lt-mul_right g (subst (λ (z : ℕ). z < (2 * h + 2) * g) (sym e) hi) in
+    omega arith
+sticky-unique n m a g g0 (inr (h, f, lo, hi)) (inr (i, e, l, u)) =
+    let x : 2 * h < 2 * i + 2 = lt_of_mul-lt-mul_right g (lt_of_le_of_lt (lt-le lo) u) in
+    let y : 2 * i < 2 * h + 2 = lt_of_mul-lt-mul_right g (lt_of_le_of_lt (lt-le l) hi) in
+    omega arith
+  where
+    lt-le : {p q : ℕ} → p < q → p ≤ q
+    lt-le {p} {q} k = omega arith
