@@ -71,6 +71,30 @@ impl Numbers {
     }
 }
 
+// The band that a setting leaves. Every NaN in it is the quiet one.
+#[tactic(auto, unfolding(crate::specs::Bands::taken))]
+pub fn taken(value: Decibels, numbers: Numbers) -> Band
+    ensures { result ≡ Bands.taken value numbers }
+{
+    let numbers = if is_unity(value) {
+        PASSTHROUGH
+    } else {
+        numbers.settled()
+    };
+    Band {
+        value: Decibels(float::settled32(value.0)),
+        numbers,
+    }
+}
+
+// Whether a setting of the value zeroes the registers of a band that held these numbers.
+#[tactic(auto, unfolding(crate::specs::Bands::clears))]
+pub fn clears(old: Numbers, value: Decibels) -> bool
+    ensures { result ≡ Bands.clears old value }
+{
+    is_unity(value) || (old.b1 == 0.0 && old.a1 == 0.0)
+}
+
 impl Setting {
     // 3, 4.
     pub fn vetted(self) -> Result<(), Refusal>
@@ -79,28 +103,18 @@ impl Setting {
         answer::vetted(in_its_range(self.value), self.numbers.worked())
     }
 
-    // The band that it leaves. Every NaN in it is the quiet one.
-    #[tactic(auto, unfolding(crate::specs::Bands::taken))]
+    // The band that it leaves.
     pub fn taken(self) -> Band
         ensures { result ≡ Bands.taken self.value self.numbers }
     {
-        let numbers = if is_unity(self.value) {
-            PASSTHROUGH
-        } else {
-            self.numbers.settled()
-        };
-        Band {
-            value: Decibels(float::settled32(self.value.0)),
-            numbers,
-        }
+        taken(self.value, self.numbers)
     }
 
     // Whether it zeroes the registers of a band that held these numbers.
-    #[tactic(auto, unfolding(crate::specs::Bands::clears))]
     pub fn clears(self, old: Numbers) -> bool
         ensures { result ≡ Bands.clears old self.value }
     {
-        is_unity(self.value) || (old.b1 == 0.0 && old.a1 == 0.0)
+        clears(old, self.value)
     }
 }
 

@@ -6,7 +6,7 @@ mod names;
 mod row;
 
 use answer::Decibels;
-pub use bands::in_its_range;
+pub use bands::{clears, in_its_range, taken};
 pub use names::index_of;
 
 pub const BANDS: usize = 16;
