@@ -14,19 +14,8 @@ use Rattle.eq_bands.specs.declared.Setting.{Setting}
 use Rattle.stage.specs.Calls.{told_by, valued, found, checked, setting}
 use Rattle.stage.specs.Vetting.{three_four}
 use Rattle.eq.specs.States.{acceptable, at_rest, with_band, value_at}
-use Rattle.eq.specs.Calls as Calls
-use Rattle.eq.specs.Calls.{equaliser_of, ran_on, outputs, set_band, set_found, read_found, read, reset, block}
+use Rattle.eq.specs.Calls.{equaliser_of, ran_on, outputs, set_band, set_found, set, read_found, read, reset, block}
 use Rattle.eq.specs.declared.Equaliser.{Equaliser}
-
--- the value beside a name is in decibels
-abbrev pub decibels : Float → Decibels
-decibels value = record { 0 = value }
-
-abbrev pub find : List ℕ → Float → Numbers → Option Setting
-find name value numbers = named name (decibels value) numbers
-
-abbrev pub set : Equaliser → List ℕ → Float → Numbers → Told Equaliser
-set e name value numbers = Calls.set e name (decibels value) numbers
 
 abbrev pub set_typed : Equaliser → Setting → Told Equaliser
 set_typed e t = set_band e t.band t.value t.numbers
@@ -65,9 +54,9 @@ unfolding set_found
 found_is e (Some t) = refl
 found_is e None = refl
 
-pub set_is : (e : Equaliser) (name : List ℕ) (value : Float) (numbers : Numbers) → set e name value numbers ≡ checked acceptable e (found e (set_typed e) (find name value numbers))
-unfolding Calls.set
-set_is e name value numbers = rw (found_is e (find name value numbers))
+pub set_is : (e : Equaliser) (name : List ℕ) (value : Decibels) (numbers : Numbers) → set e name value numbers ≡ checked acceptable e (found e (set_typed e) (named name value numbers))
+unfolding set
+set_is e name value numbers = rw (found_is e (named name value numbers))
 
 there_is : (e : Equaliser) (i : ℕ) (there : Bool) → unless there (refused e NoBand) (valued e (value_at e i)) ≡ told_by valued e (unless there (Err NoBand) (Ok (value_at e i)))
 there_is e i true = refl

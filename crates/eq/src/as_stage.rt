@@ -4,6 +4,7 @@ ghost use Rattle.answer.specs.Told.{done};
 ghost use Rattle.eq.specs.AsStage as AsStage;
 ghost use Rattle.eq.specs.Calls as Calls;
 ghost use Rattle.eq.specs.States as States;
+ghost use Rattle.eq_bands.specs.Names as Names;
 
 use crate::making::{AT_REST, NO_DELAY};
 use crate::{Equaliser, samples};
@@ -13,13 +14,15 @@ use eq_bands::{BANDS, Numbers, Setting};
 impl stage::Stage for Equaliser {
     type Setting = Setting;
 
+    type Value = Decibels;
+
     type Numbers = Numbers;
 
     type Said = ();
 
     type Passed = ();
 
-    ghost set = { AsStage.set };
+    ghost set = { Calls.set };
 
     ghost set_typed = { AsStage.set_typed };
 
@@ -35,7 +38,7 @@ impl stage::Stage for Equaliser {
 
     ghost acceptable = { States.acceptable };
 
-    ghost find = { AsStage.find };
+    ghost find = { Names.named };
 
     ghost vet = { AsStage.vet };
 
@@ -63,8 +66,8 @@ impl stage::Stage for Equaliser {
         self.settings.settable()
     }
 
-    fn find(name: &[u8], value: f32, numbers: Numbers) -> Option<Setting> {
-        Setting::named(name, Decibels(value), numbers)
+    fn find(name: &[u8], value: Decibels, numbers: Numbers) -> Option<Setting> {
+        Setting::named(name, value, numbers)
     }
 
     // 2, 3, 4.

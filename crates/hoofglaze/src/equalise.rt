@@ -36,7 +36,7 @@ pub extern "C" fn hoofglaze_eq_set(
 ) -> EqAnswered
     ensures { told_in result.equaliser result.answer ≡ calls.set e name.now value worked }
 {
-    let answer = e.set(name, value.0, worked).into();
+    let answer = e.set(name, value, worked).into();
     EqAnswered {
         equaliser: e,
         answer,

@@ -33,6 +33,8 @@ impl fold::Step for Leveller {
 impl stage::Stage for Leveller {
     type Setting = Setting;
 
+    type Value = f32;
+
     type Numbers = f32;
 
     type Said = ();

@@ -32,6 +32,8 @@ impl fold::Step for Saturator {
 impl stage::Stage for Saturator {
     type Setting = Setting;
 
+    type Value = f32;
+
     type Numbers = Crossover;
 
     type Said = ();

@@ -19,6 +19,8 @@ const LONGEST_COUNT: u64 = 96000;
 impl stage::Stage for Gate {
     type Setting = Setting;
 
+    type Value = f32;
+
     type Numbers = f32;
 
     // Of the hold, its samples and the word of their truncation.

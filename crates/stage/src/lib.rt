@@ -14,6 +14,9 @@ pub trait Stage: Copy {
     // A setting: its value, and the worked numbers that it takes.
     type Setting: Copy;
 
+    // The value beside a name.
+    type Value: Copy;
+
     // The worked numbers beside a name and a value.
     type Numbers: Copy;
 
@@ -23,7 +26,7 @@ pub trait Stage: Copy {
     type Passed: Copy;
 
     // What each call tells.
-    ghost set: { Self → List ℕ → Float → Self.Numbers → Told Self };
+    ghost set: { Self → List ℕ → Self.Value → Self.Numbers → Told Self };
 
     ghost set_typed: { Self → Self.Setting → Told Self };
 
@@ -41,7 +44,7 @@ pub trait Stage: Copy {
     // What the stage says of itself.
     ghost acceptable: { Self → Bool };
 
-    ghost find: { List ℕ → Float → Self.Numbers → Option Self.Setting };
+    ghost find: { List ℕ → Self.Value → Self.Numbers → Option Self.Setting };
 
     ghost vet: { Self.Setting → Result ⊤ Refusal };
 
@@ -58,7 +61,7 @@ pub trait Stage: Copy {
         ensures { result ≡ acceptable self.now };
 
     // The setting that a name asks for, with the value and the worked numbers beside it.
-    fn find(name: &[u8], value: f32, numbers: Self::Numbers) -> Option<Self::Setting>
+    fn find(name: &[u8], value: Self::Value, numbers: Self::Numbers) -> Option<Self::Setting>
         ensures { result ≡ find name.now value numbers };
 
     // What refuses a setting: its place, its value or its worked numbers.
@@ -86,7 +89,7 @@ pub trait Stage: Copy {
     // What each call tells is made of that.
     ghost set_typed_is: { (s : Self) (t : Self.Setting) → set_typed s t ≡ setting acceptable s says (vet t) (take s t) };
 
-    ghost set_is: { (s : Self) (name : List ℕ) (value : Float) (numbers : Self.Numbers) → set s name value numbers ≡ checked acceptable s (found s (set_typed s) (find name value numbers)) };
+    ghost set_is: { (s : Self) (name : List ℕ) (value : Self.Value) (numbers : Self.Numbers) → set s name value numbers ≡ checked acceptable s (found s (set_typed s) (find name value numbers)) };
 
     ghost read_is: { (s : Self) (name : List ℕ) → read s name ≡ checked acceptable s (told_by valued s (stored s name)) };
 
@@ -114,7 +117,7 @@ pub trait Stage: Copy {
     final fn set(
         &mut self,
         name: &[u8],
-        value: f32,
+        value: Self::Value,
         numbers: Self::Numbers,
     ) -> Result<Self::Said, Refusal>
         ensures { told_by says self.new result ≡ set self.old name.now value numbers }

@@ -13,6 +13,8 @@ use tonestack_sample::Setting;
 impl stage::Stage for Tone {
     type Setting = Setting;
 
+    type Value = f32;
+
     type Numbers = f32;
 
     type Said = ();
