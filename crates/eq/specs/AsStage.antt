@@ -11,6 +11,7 @@ use Rattle.eq_bands.specs.Bands.{in_its_range, worked}
 use Rattle.eq_bands.specs.Names.{index_of, named}
 use Rattle.eq_bands.specs.declared.Numbers.{Numbers}
 use Rattle.eq_bands.specs.declared.Setting.{Setting}
+use Rattle.eq_bands.specs.declared.Setting.TheVariants.{Band}
 use Rattle.stage.specs.Calls.{told_by, valued, found, checked, setting}
 use Rattle.stage.specs.Vetting.{three_four}
 use Rattle.eq.specs.States.{acceptable, at_rest, with_band, value_at}
@@ -18,13 +19,13 @@ use Rattle.eq.specs.Calls.{equaliser_of, ran_on, outputs, set_band, set_found, s
 use Rattle.eq.specs.declared.Equaliser.{Equaliser}
 
 abbrev pub set_typed : Equaliser → Setting → Told Equaliser
-set_typed e t = set_band e t.band t.value t.numbers
+set_typed e (Band i value numbers) = set_band e i value numbers
 
 abbrev pub vet : Setting → Result ⊤ Refusal
-vet t = unless (ltb t.band 16) (Err NoBand) (vetted (in_its_range t.value) (worked t.numbers))
+vet (Band i value numbers) = unless (ltb i 16) (Err NoBand) (vetted (in_its_range value) (worked numbers))
 
 abbrev pub take : Equaliser → Setting → Equaliser × ⊤
-take e t = (with_band e t.band t.value t.numbers, tt)
+take e (Band i value numbers) = (with_band e i value numbers, tt)
 
 abbrev pub stored_of : Equaliser → Option ℕ → Result Float Refusal
 stored_of e (Some i) = unless (ltb i 16) (Err NoBand) (Ok (value_at e i))
@@ -47,11 +48,11 @@ two_three_four e false ranged worked t = refl
 
 pub set_typed_is : (e : Equaliser) (t : Setting) → set_typed e t ≡ setting acceptable e (λ e _. done e) (vet t) (take e t)
 unfolding set_band
-set_typed_is e t = rw (three_four e (in_its_range t.value) (worked t.numbers) (done (take e t).0), two_three_four e (ltb t.band 16) (in_its_range t.value) (worked t.numbers) (done (take e t).0))
+set_typed_is e (Band i value numbers) = let t = done (with_band e i value numbers) in rw (three_four e (in_its_range value) (worked numbers) t, two_three_four e (ltb i 16) (in_its_range value) (worked numbers) t)
 
 found_is : (e : Equaliser) (o : Option Setting) → set_found e o ≡ found e (set_typed e) o
 unfolding set_found
-found_is e (Some t) = refl
+found_is e (Some (Band i value numbers)) = refl
 found_is e None = refl
 
 pub set_is : (e : Equaliser) (name : List ℕ) (value : Decibels) (numbers : Numbers) → set e name value numbers ≡ checked acceptable e (found e (set_typed e) (named name value numbers))

@@ -12,6 +12,7 @@ use Rattle.eq_bands.specs.Names.{index_of, named}
 use Rattle.eq_bands.specs.declared.Numbers.{Numbers}
 use Rattle.eq_bands.specs.declared.Settings.{Settings}
 use Rattle.eq_bands.specs.declared.Setting.{Setting}
+use Rattle.eq_bands.specs.declared.Setting.TheVariants.{Band}
 use Rattle.eq_bands.specs.Row as Row
 use Rattle.eq_bands.specs.declared.Registers.{Registers}
 use Rattle.eq.specs.declared.Equaliser.{Equaliser}
@@ -31,7 +32,7 @@ set_band e i value numbers =
     (done (with_band e i value numbers)))))
 
 unfoldable pub set_found : Equaliser → Option Setting → Told Equaliser
-set_found e (Some t) = set_band e t.band t.value t.numbers
+set_found e (Some (Band i value numbers)) = set_band e i value numbers
 set_found e None = refused e NoSetting
 
 unfoldable pub set : Equaliser → List ℕ → Decibels → Numbers → Told Equaliser

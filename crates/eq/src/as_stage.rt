@@ -1,5 +1,5 @@
 // The equaliser as a stage: what 9 accepts, its settings, its samples.
-ghost use Rattle.std.specs.Prelude.{◌≡◌};
+ghost use Rattle.std.specs.Prelude.{◌≡◌, ◌<◌};
 ghost use Rattle.answer.specs.Told.{done};
 ghost use Rattle.eq.specs.AsStage as AsStage;
 ghost use Rattle.eq.specs.Calls as Calls;
@@ -10,6 +10,20 @@ use crate::making::{AT_REST, NO_DELAY};
 use crate::{Equaliser, samples};
 use answer::{Decibels, Refusal};
 use eq_bands::{BANDS, Numbers, Setting};
+
+impl Equaliser {
+    // Takes a setting of a band that there is.
+    fn put(&mut self, band: usize, value: Decibels, numbers: Numbers)
+        requires { band < 16 }
+        ensures { self.new ≡ States.with_band self.old band value numbers }
+    {
+        let clears = eq_bands::clears(self.settings.bands[band].numbers, value);
+        self.settings.bands[band] = eq_bands::taken(value, numbers);
+        if clears {
+            self.registers.bands[band] = NO_DELAY;
+        }
+    }
+}
 
 impl stage::Stage for Equaliser {
     type Setting = Setting;
@@ -72,18 +86,16 @@ impl stage::Stage for Equaliser {
 
     // 2, 3, 4.
     fn vet(t: Setting) -> Result<(), Refusal> {
-        if t.band >= BANDS {
+        let Setting::Band(band, _, _) = t;
+        if band >= BANDS {
             return Err(Refusal::NoBand);
         }
         t.vetted()
     }
 
     fn take(&mut self, t: Setting) {
-        let clears = t.clears(self.settings.bands[t.band].numbers);
-        self.settings.bands[t.band] = t.taken();
-        if clears {
-            self.registers.bands[t.band] = NO_DELAY;
-        }
+        let Setting::Band(band, value, numbers) = t;
+        self.put(band, value, numbers);
     }
 
     // 1, 2.

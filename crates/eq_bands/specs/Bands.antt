@@ -11,8 +11,16 @@ use Rattle.answer.specs.declared.Decibels.{Decibels}
 use Rattle.eq_bands.specs.declared.Numbers.{Numbers}
 use Rattle.eq_bands.specs.declared.Band.{Band}
 use Rattle.eq_bands.specs.declared.Settings.{Settings}
+use Rattle.eq_bands.specs.declared.Setting.{Setting}
+use Rattle.eq_bands.specs.declared.Setting.TheVariants as setting
 
 -- ---- a setting: its value (3), and its five numbers (4)
+abbrev pub value_of : Setting → Decibels
+value_of (setting.Band i value numbers) = value
+
+abbrev pub numbers_of : Setting → Numbers
+numbers_of (setting.Band i value numbers) = numbers
+
 unfoldable pub in_its_range : Decibels → Bool
 in_its_range value = in_range (neg (f32 12 1)) (f32 12 1) value.0
 

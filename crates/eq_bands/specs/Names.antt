@@ -5,6 +5,7 @@ use Rattle.answer.specs.Names.{bytes, same}
 use Rattle.answer.specs.declared.Decibels.{Decibels}
 use Rattle.eq_bands.specs.declared.Numbers.{Numbers}
 use Rattle.eq_bands.specs.declared.Setting.{Setting}
+use Rattle.eq_bands.specs.declared.Setting.TheVariants.{Band}
 
 -- '0' to '9'
 abbrev pub is_digit : ℕ → Bool
@@ -33,7 +34,7 @@ index_of name = cond (same (take 5 name) (bytes "band_")) (number_of (after_plus
 
 -- the setting of that name, with the value and the worked numbers beside it
 unfoldable pub setting_at : Option ℕ → Decibels → Numbers → Option Setting
-setting_at (Some i) value numbers = Some (record { band = i; value = value; numbers = numbers })
+setting_at (Some i) value numbers = Some (Band i value numbers)
 setting_at None value numbers = None
 
 unfoldable pub named : List ℕ → Decibels → Numbers → Option Setting

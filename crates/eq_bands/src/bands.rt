@@ -98,23 +98,26 @@ pub fn clears(old: Numbers, value: Decibels) -> bool
 impl Setting {
     // 3, 4.
     pub fn vetted(self) -> Result<(), Refusal>
-        ensures { result ≡ vetted (Bands.in_its_range self.value) (Bands.worked self.numbers) }
+        ensures { result ≡ vetted (Bands.in_its_range (Bands.value_of self)) (Bands.worked (Bands.numbers_of self)) }
     {
-        answer::vetted(in_its_range(self.value), self.numbers.worked())
+        let Setting::Band(_, value, numbers) = self;
+        answer::vetted(in_its_range(value), numbers.worked())
     }
 
     // The band that it leaves.
     pub fn taken(self) -> Band
-        ensures { result ≡ Bands.taken self.value self.numbers }
+        ensures { result ≡ Bands.taken (Bands.value_of self) (Bands.numbers_of self) }
     {
-        taken(self.value, self.numbers)
+        let Setting::Band(_, value, numbers) = self;
+        taken(value, numbers)
     }
 
     // Whether it zeroes the registers of a band that held these numbers.
     pub fn clears(self, old: Numbers) -> bool
-        ensures { result ≡ Bands.clears old self.value }
+        ensures { result ≡ Bands.clears old (Bands.value_of self) }
     {
-        clears(old, self.value)
+        let Setting::Band(_, value, _) = self;
+        clears(old, value)
     }
 }
 

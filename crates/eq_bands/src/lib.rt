@@ -54,10 +54,8 @@ pub struct Registers {
     pub bands: [Delay; BANDS],
 }
 
-// A setting: its band, and the value and the worked numbers for it.
+// A setting, of which there is one kind: a band, with the value and the worked numbers for it.
 #[derive(Clone, Copy)]
-pub struct Setting {
-    pub band: usize,
-    pub value: Decibels,
-    pub numbers: Numbers,
+pub enum Setting {
+    Band(usize, Decibels, Numbers),
 }

@@ -36,11 +36,6 @@ impl Setting {
     pub fn named(name: &[u8], value: Decibels, numbers: Numbers) -> Option<Setting>
         ensures { result ≡ Names.named name.now value numbers }
     {
-        let band = index_of(name)?;
-        Some(Setting {
-            band,
-            value,
-            numbers,
-        })
+        Some(Setting::Band(index_of(name)?, value, numbers))
     }
 }

@@ -52,13 +52,7 @@ pub extern "C" fn hoofglaze_eq_set_band(
 ) -> EqAnswered
     ensures { told_in result.equaliser result.answer ≡ calls.set_band e band value worked }
 {
-    let answer = e
-        .set_typed(Setting {
-            band,
-            value,
-            numbers: worked,
-        })
-        .into();
+    let answer = e.set_typed(Setting::Band(band, value, worked)).into();
     EqAnswered {
         equaliser: e,
         answer,

@@ -24,6 +24,7 @@ use Rattle.eq_bands.specs.Bands.{in_its_range, worked, settable}
 use Rattle.eq_bands.specs.Names.{index_of, named}
 use Rattle.eq_bands.specs.declared.Numbers.{Numbers}
 use Rattle.eq_bands.specs.declared.Setting.{Setting}
+use Rattle.eq_bands.specs.declared.Setting.TheVariants.{Band}
 use Rattle.eq.specs.States.{acceptable, unmade, band_at, delay_at, with_band}
 use Rattle.eq.specs.Calls.{make, set_band, set_found, set, read_found, read, reset, block}
 use Rattle.eq.specs.declared.Equaliser.{Equaliser}
@@ -43,7 +44,7 @@ module _ (e : Equaliser) where
 
   found-unchanged : (t : Option Setting) → Unchanged e (set_found e t)
   unfolding set_found
-  found-unchanged (Some t) = band-unchanged t.band t.value t.numbers
+  found-unchanged (Some (Band i value numbers)) = band-unchanged i value numbers
   found-unchanged None = record { kept = λ _. refl }
 
   read-unchanged : (i : Option ℕ) → Unchanged e (read_found e i)
@@ -134,7 +135,7 @@ module _ (e : Equaliser) (a : acceptable e ≡ true) where
 
   found-accepted : (t : Option Setting) → acceptable (set_found e t).state ≡ true
   unfolding set_found
-  found-accepted (Some t) = band-accepted t.band t.value t.numbers
+  found-accepted (Some (Band i value numbers)) = band-accepted i value numbers
   found-accepted None = a
 
   named-accepted : (name : List ℕ) (value : Decibels) (numbers : Numbers) → acceptable (set e name value numbers).state ≡ true
