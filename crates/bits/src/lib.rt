@@ -8,6 +8,15 @@ ghost use Rattle.std.specs.Float.Ieee.{of_bits, to_bits};
 ghost use Rattle.std.specs.Float.Ieee.Nearest.{closest};
 ghost use Rattle.rounding.specs.Steps as Steps;
 
+// The two infinities' patterns without their sign: a NaN's lies above.
+const INFINITY32: u32 = 0x7f80_0000;
+
+const INFINITY64: u64 = 0x7ff0_0000_0000_0000;
+
+const SIGN32: u32 = 0x8000_0000;
+
+const SIGN64: u64 = 0x8000_0000_0000_0000;
+
 // x, and any NaN as 7FC00000.
 pub fn settled32(x: f32) -> f32
     ensures { result ≡ x }
@@ -37,13 +46,21 @@ pub fn bits64(x: f64) -> u64
 pub fn from_bits32(n: u32) -> f32
     ensures { result ≡ of_bits binary32 n }
 {
-    settled32(std::num::f32_from_bits_with_nan(n))
+    if INFINITY32 < n % SIGN32 {
+        f32::NAN
+    } else {
+        std::num::f32_from_bits_with_nan(n)
+    }
 }
 
 pub fn from_bits64(n: u64) -> f64
     ensures { result ≡ of_bits binary64 n }
 {
-    settled64(std::num::f64_from_bits_with_nan(n))
+    if INFINITY64 < n % SIGN64 {
+        f64::NAN
+    } else {
+        std::num::f64_from_bits_with_nan(n)
+    }
 }
 
 // The number m * 2 ^ k.

@@ -3,7 +3,6 @@ ghost use Rattle.std.specs.Prelude.{◌≡◌};
 ghost use Rattle.eq.specs.Calls as calls;
 ghost use Rattle.answer.specs.Crossing.{told_in};
 
-use crate::crossing::made;
 use answer::{Decibels, Numbered};
 use eq::Equaliser;
 use eq_bands::{Numbers, Setting};
@@ -20,10 +19,15 @@ pub struct EqAnswered {
 pub extern "C" fn hoofglaze_eq_make(rate: f32) -> EqAnswered
     ensures { told_in result.equaliser result.answer ≡ calls.make rate }
 {
-    let (equaliser, answer) = made(Equaliser::unmade(), Equaliser::make(rate));
-    EqAnswered {
-        equaliser,
-        answer: answer.into(),
+    match Equaliser::make(rate) {
+        Ok(equaliser) => EqAnswered {
+            equaliser,
+            answer: ().into(),
+        },
+        Err(r) => EqAnswered {
+            equaliser: Equaliser::unmade(),
+            answer: r.into(),
+        },
     }
 }
 

@@ -6,7 +6,6 @@ ghost use Rattle.noise_gate_settings.specs.declared.Setting.TheVariants.{Thresho
 ghost use Rattle.answer.specs.Crossing.{told_in};
 ghost use Rattle.answer.specs.Told.{told};
 
-use crate::crossing::made;
 use answer::{Decibels, Factor, Numbered, Refusal};
 use float::Truncation;
 use noise_gate::{Before, Gate, Passed, Setting};
@@ -57,8 +56,10 @@ fn set_typed(mut g: Gate, t: Setting) -> GateAnswered
 pub extern "C" fn hoofglaze_gate_make(rate: f32, rising: f32, falling: f32) -> GateAnswered
     ensures { told_in result.gate result.answer ≡ calls.make rate rising falling }
 {
-    let (gate, answer) = made(Gate::unmade(), Gate::make(rate, rising, falling));
-    answered(gate, answer)
+    match Gate::make(rate, rising, falling) {
+        Ok(gate) => answered(gate, Ok(())),
+        Err(r) => answered(Gate::unmade(), Err(r)),
+    }
 }
 
 #[unsafe(no_mangle)]

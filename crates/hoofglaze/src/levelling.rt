@@ -5,7 +5,6 @@ ghost use Rattle.leveller.specs.Calls as calls;
 ghost use Rattle.leveller_settings.specs.declared.Setting.TheVariants.{Threshold, Ratio, Attack, Release, Makeup};
 ghost use Rattle.answer.specs.Crossing.{told_in};
 
-use crate::crossing::made;
 use answer::{Decibels, Factor, Numbered, Refusal};
 use leveller::{Leveller, Setting};
 use stage::Stage;
@@ -37,8 +36,10 @@ fn set_typed(mut l: Leveller, t: Setting) -> LevellerAnswered
 pub extern "C" fn hoofglaze_leveller_make(rate: f32, rising: f32, falling: f32) -> LevellerAnswered
     ensures { told_in result.leveller result.answer ≡ calls.make rate rising falling }
 {
-    let (leveller, answer) = made(Leveller::unmade(), Leveller::make(rate, rising, falling));
-    answered(leveller, answer)
+    match Leveller::make(rate, rising, falling) {
+        Ok(leveller) => answered(leveller, Ok(())),
+        Err(r) => answered(Leveller::unmade(), Err(r)),
+    }
 }
 
 #[unsafe(no_mangle)]

@@ -4,7 +4,6 @@
 
 pub mod arithmetic;
 pub mod clip;
-mod crossing;
 pub mod equalise;
 pub mod gate;
 pub mod gate_in_place;

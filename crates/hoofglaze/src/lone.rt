@@ -4,7 +4,6 @@ ghost use Rattle.common.specs.Blocker as blocker;
 ghost use Rattle.common.specs.Follower as follower;
 ghost use Rattle.answer.specs.Crossing.{told_in};
 
-use crate::crossing::made;
 use answer::Numbered;
 use common::blocker::Blocker;
 use common::follower::Follower;
@@ -27,10 +26,15 @@ pub struct BlockerAnswered {
 pub extern "C" fn hoofglaze_follower_make(attack: f32, release: f32) -> FollowerAnswered
     ensures { told_in result.follower result.answer ≡ follower.make attack release }
 {
-    let (follower, answer) = made(Follower::unmade(), Follower::make(attack, release));
-    FollowerAnswered {
-        follower,
-        answer: answer.into(),
+    match Follower::make(attack, release) {
+        Ok(follower) => FollowerAnswered {
+            follower,
+            answer: ().into(),
+        },
+        Err(r) => FollowerAnswered {
+            follower: Follower::unmade(),
+            answer: r.into(),
+        },
     }
 }
 
@@ -60,10 +64,15 @@ pub extern "C" fn hoofglaze_follower_reset(mut f: Follower) -> FollowerAnswered
 pub extern "C" fn hoofglaze_blocker_make(c: f32) -> BlockerAnswered
     ensures { told_in result.blocker result.answer ≡ blocker.make c }
 {
-    let (blocker, answer) = made(Blocker::unmade(), Blocker::make(c));
-    BlockerAnswered {
-        blocker,
-        answer: answer.into(),
+    match Blocker::make(c) {
+        Ok(blocker) => BlockerAnswered {
+            blocker,
+            answer: ().into(),
+        },
+        Err(r) => BlockerAnswered {
+            blocker: Blocker::unmade(),
+            answer: r.into(),
+        },
     }
 }
 

@@ -6,7 +6,6 @@ ghost use Rattle.multiband_saturator_settings.specs.declared.Frequency.TheVarian
 ghost use Rattle.multiband_saturator_settings.specs.declared.Setting.TheVariants.{Drive, Level, Freq};
 ghost use Rattle.answer.specs.Crossing.{told_in};
 
-use crate::crossing::made;
 use answer::Numbered;
 use multiband_saturator::{Band, Crossover, Frequency, Saturator, Setting};
 use stage::Stage;
@@ -39,13 +38,15 @@ pub extern "C" fn hoofglaze_saturator_make(
 ) -> SaturatorAnswered
     ensures { told_in result.saturator result.answer ≡ calls.make rate low high attack release blocker }
 {
-    let (saturator, answer) = made(
-        Saturator::unmade(),
-        Saturator::make(rate, low, high, attack, release, blocker),
-    );
-    SaturatorAnswered {
-        saturator,
-        answer: answer.into(),
+    match Saturator::make(rate, low, high, attack, release, blocker) {
+        Ok(saturator) => SaturatorAnswered {
+            saturator,
+            answer: ().into(),
+        },
+        Err(r) => SaturatorAnswered {
+            saturator: Saturator::unmade(),
+            answer: r.into(),
+        },
     }
 }
 

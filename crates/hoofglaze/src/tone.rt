@@ -6,7 +6,6 @@ ghost use Rattle.tonestack.specs.Calls as calls;
 ghost use Rattle.tonestack_sample.specs.declared.Setting.TheVariants.{Bass, Mid, Treble, Presence};
 ghost use Rattle.answer.specs.Crossing.{told_in};
 
-use crate::crossing::made;
 use answer::{Factor, Numbered, Refusal};
 use stage::Stage;
 use tonestack::{Model, Setting, Tone};
@@ -30,8 +29,10 @@ fn answered(tone: Tone, answer: Result<(), Refusal>) -> ToneAnswered
 fn make(model: Model, rate: f32) -> ToneAnswered
     ensures { told_in result.tone result.answer ≡ calls.make model rate }
 {
-    let (tone, answer) = made(Tone::unmade(), Tone::make(model, rate));
-    answered(tone, answer)
+    match Tone::make(model, rate) {
+        Ok(tone) => answered(tone, Ok(())),
+        Err(r) => answered(Tone::unmade(), Err(r)),
+    }
 }
 
 fn set_typed(mut t: Tone, v: Setting) -> ToneAnswered
