@@ -1,6 +1,6 @@
 -- What the noise gate promises, in document 01's words; what silence means is a page of its own, the crate `silence`. Statements only.
 -- Assumes nothing.
-use Rattle.std.specs.Prelude.{◌≡◌, ◌↔◌, true, not, List, [], ◌∷◌, ℕ, ◌≤◌, T, Float, Result, ⊤, Option, Some, None, Ok, Err}
+use Rattle.std.specs.Prelude.{◌≡◌, ◌↔◌, true, not, List, [], ◌∷◌, ℕ, ◌≤◌, T, Float, Result, ⊤, Option}
 use Rattle.std.specs.Float.Ieee.{eq}
 use Rattle.float.specs.Truncating.{itself}
 use Rattle.answer.specs.Names.{bytes}
